@@ -1,0 +1,1 @@
+// Definitions and laws that several crates cite. There is no code here: see specs/ and proofs/.

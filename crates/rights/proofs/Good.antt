@@ -1,0 +1,40 @@
+-- What a good right's fields are, read off the joined test.
+-- Assumes nothing.
+use Prim.Native.Nat.{ℕ, _≤_, _<_}
+use mathlib.Core.Path.{_≡_}
+use mathlib.Core.Bool.{true, false, _&&_}
+use lib.Dec.{leb}
+use borrow.Author.Tests.{leb-true, leb-false}
+use Rattle.numbers.proofs.Tests.{both-true, neither-true}
+use Rattle.rights.specs.declared.Right.{Right}
+use Rattle.rights.specs.Layout.{goodOwner, goodNodes, goodKind, goodSize, goodDays, isGood}
+use Rattle.rights.specs.Faults.{isUnpriced}
+
+module _ (right : Right) (good : isGood right ≡ true) where
+  to-size : (goodOwner right && goodNodes right && goodKind right && goodSize right) ≡ true
+  to-size = both-true (goodOwner right && goodNodes right && goodKind right && goodSize right) (goodDays right) good .0
+
+  to-kind : (goodOwner right && goodNodes right && goodKind right) ≡ true
+  to-kind = both-true (goodOwner right && goodNodes right && goodKind right) (goodSize right) to-size .0
+
+  to-nodes : (goodOwner right && goodNodes right) ≡ true
+  to-nodes = both-true (goodOwner right && goodNodes right) (goodKind right) to-kind .0
+
+  pub good-owner : right .owner ≤ 63
+  good-owner = leb-true _ _ (both-true (goodOwner right) (goodNodes right) to-nodes .0)
+
+  pub good-size : right .size ≤ 100_000
+  good-size =
+      leb-true _ _
+      (both-true (leb 1 (right .size)) (leb (right .size) 100_000)
+      (both-true (goodOwner right && goodNodes right && goodKind right) (goodSize right) to-size .1) .1)
+
+-- a right that is not unpriced has both its nodes among the prices
+module _ (prices : ℕ) (right : Right) (priced : isUnpriced prices right ≡ false) where
+  pub source-priced : right .source < prices
+  source-priced =
+      leb-false prices (right .source) (neither-true (leb prices (right .source)) (leb prices (right .sink)) priced .0)
+
+  pub sink-priced : right .sink < prices
+  sink-priced =
+      leb-false prices (right .sink) (neither-true (leb prices (right .source)) (leb prices (right .sink)) priced .1)

@@ -1,0 +1,23 @@
+-- `rights::has_fault` meets its contract: each return rewrites with the test that led there.
+-- Assumes nothing.
+use mathlib.Core.Path.{ap}
+use mathlib.Core.Bool.{not}
+use borrow.Author.Tests.{eq-eqb, ne-eqb}
+use borrow.Author.Needs.{needs}
+use Rattle.rights.proofs.has_fault.Statement.{statement}
+use Rattle.rights.proofs.has_fault.Tie as tie
+
+is-good-requires : tie.Need-is-good-requires
+is-good-requires c κs = search needs
+
+returns : tie.Need-returns
+returns c = rw (eq-eqb _ _ (c .before .if1 .taken)) (ap not (c .is-good .ensures))
+
+is-unpriced-requires : tie.Need-is-unpriced-requires
+is-unpriced-requires c κs = search needs
+
+returns-2 : tie.Need-returns-2
+returns-2 c = rw (ne-eqb _ _ (c .before .if1 .left)) (c .is-unpriced .ensures)
+
+pub has-fault-spec : {M : Type 1} → statement M
+has-fault-spec = tie.close (tie.spec is-good-requires returns is-unpriced-requires returns-2)

@@ -1,0 +1,101 @@
+-- The rights file: where each field of a record stands, which values are good, and when a right is live.
+-- Assumes nothing.
+use Prim.Native.Nat.{ℕ, _+_, _*_, _/_, _%_}
+use mathlib.Core.Bool.{Bool, not, _&&_, _||_}
+use mathlib.Core.List.{List, [], _∷_}
+use lib.Dec.{leb, ltb, eqb}
+use lib.ListN.{length, getD}
+use Rattle.numbers.specs.Refusals.{firstRefusal, _if_, answerBy}
+use Rattle.calendar.specs.Year.{daysInYear}
+use Rattle.calendar.specs.declared.OperatingHour.{OperatingHour}
+use Rattle.rights.specs.declared.Right.{Right}
+use Rattle.rights.specs.declared.Reading.{Reading}
+
+-- "Records of 16 bytes, no header"
+abbrev pub recordBytes : ℕ
+recordBytes = 16
+
+-- how many whole records a file has
+abbrev pub recordCount : List ℕ → ℕ
+recordCount file = length file / recordBytes
+
+-- "low byte first": one, two and four bytes from a place on
+abbrev pub byte8 : List ℕ → ℕ → ℕ
+byte8 file at = getD file at 0
+
+abbrev pub word16 : List ℕ → ℕ → ℕ
+word16 file at = byte8 file at + byte8 file (at + 1) * 256
+
+abbrev pub word32 : List ℕ → ℕ → ℕ
+word32 file at = word16 file at + word16 file (at + 2) * 65536
+
+-- the record of a number, from 0: "0: owner", "2: source node", "4: sink node", "6: kind", "7: class",
+-- "8: size in tenths of a megawatt", "12: first day", "14: last day"
+abbrev pub rightFrom : List ℕ → ℕ → Right
+rightFrom file at =
+    record {
+      owner = word16 file at;
+      source = word16 file (at + 2);
+      sink = word16 file (at + 4);
+      kind = byte8 file (at + 6);
+      class = byte8 file (at + 7);
+      size = word32 file (at + 8);
+      first = word16 file (at + 12);
+      last = word16 file (at + 14);
+    }
+
+abbrev pub rightAt : List ℕ → ℕ → Right
+rightAt file number = rightFrom file (number * recordBytes)
+
+-- the values that each field may have: "owner, 16 bits, 0 to 63"
+abbrev pub goodOwner : Right → Bool
+goodOwner right = leb (right .owner) 63
+
+-- "source node, 16 bits, 0 to 1,023"; "sink node, 16 bits, 0 to 1,023, not the source"
+abbrev pub goodNodes : Right → Bool
+goodNodes right = leb (right .source) 1023 && leb (right .sink) 1023 && not (eqb (right .sink) (right .source))
+
+-- "kind, 8 bits: 0 obligation, 1 option"; "class, 8 bits: 0 peak, 1 off-peak, 2 all hours"
+abbrev pub goodKind : Right → Bool
+goodKind right = leb (right .kind) 1 && leb (right .class) 2
+
+-- "size in tenths of a megawatt, 32 bits, 1 to 100,000"
+abbrev pub goodSize : Right → Bool
+goodSize right = leb 1 (right .size) && leb (right .size) 100_000
+
+-- "1 ≤ first ≤ last ≤ 365"
+abbrev pub goodDays : Right → Bool
+goodDays right = leb 1 (right .first) && leb (right .first) (right .last) && leb (right .last) daysInYear
+
+abbrev pub isGood : Right → Bool
+isGood right = goodOwner right && goodNodes right && goodKind right && goodSize right && goodDays right
+
+-- "A right is live in an hour if the day is from first to last and its class fits": 0 peak, 1 off-peak, 2 all hours
+abbrev pub classFits : ℕ → Bool → Bool
+classFits class peak = eqb class 0 && peak || eqb class 1 && not peak || eqb class 2
+
+abbrev pub isLive : OperatingHour → Right → Bool
+isLive hour right = leb (right .first) (hour .day) && leb (hour .day) (right .last) && classFits (right .class) (hour .peak)
+
+-- 4: "rights not a multiple of 16 or above 65,536"
+abbrev pub isWrongLength : ℕ → Bool
+isWrongLength bytes = not (eqb (bytes % recordBytes) 0) || ltb 65_536 bytes
+
+-- "A read by record number, from 0, gives the eight fields, or 4 or 7": 4 also for "no such record"
+unfoldable pub readRefusal : List ℕ → ℕ → ℕ
+readRefusal file number =
+    firstRefusal
+    ((4 if isWrongLength (length file) || leb (recordCount file) number) ∷ (7 if not (isGood (rightAt file number))) ∷ [])
+
+-- a refused read gives zeros beside its number
+abbrev pub refusedReading : ℕ → Reading
+refusedReading refusal =
+    record {
+      refusal = refusal;
+      right = record { owner = 0; source = 0; sink = 0; kind = 0; class = 0; size = 0; first = 0; last = 0 };
+    }
+
+unfoldable pub reading : List ℕ → ℕ → Reading
+reading file number =
+    answerBy (readRefusal file number) (record { refusal = 0; right = rightAt file number })
+    (refusedReading (readRefusal file number))
