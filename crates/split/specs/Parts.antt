@@ -1,0 +1,40 @@
+-- What the contracts of the split's inner functions cite: the order by remainders in a list, and what holds between their steps.
+-- Assumes nothing.
+use Prim.Native.Nat.{ℕ, _+_, _<_, _≤_}
+use mathlib.Core.Bool.{Bool, cond, _&&_, _||_}
+use mathlib.Core.List.{List}
+use mathlib.Core.Path.{_≡_}
+use lib.Dec.{ltb, eqb}
+use lib.ListN.{length, getD}
+use Rattle.numbers.specs.Lists.{total, countBelow, listBelow}
+use Rattle.split.specs.Split.{wholePart, remainder, unpaidCents}
+
+-- owner j with the remainder y stands ahead of owner i with the remainder x
+abbrev pub standsAhead : ℕ → ℕ → ℕ → ℕ → Bool
+standsAhead x i y j = ltb x y || (eqb x y && ltb j i)
+
+-- the same by a number for each owner
+abbrev pub aheadBy : (ℕ → ℕ) → ℕ → ℕ → Bool
+aheadBy r i j = standsAhead (r i) i (r j) j
+
+-- how many of the owners stand ahead of owner i, by the list of their remainders
+unfoldable pub placeOf : List ℕ → ℕ → ℕ → ℕ
+placeOf rests owners i = countBelow (aheadBy (λ k. getD rests k 0) i) owners
+
+-- a payment, with an odd cent if fewer than the unpaid cents stand ahead
+unfoldable pub withOddCent : List ℕ → ℕ → List ℕ → ℕ → ℕ
+withOddCent rests unpaid paid i = getD paid i 0 + cond (ltb (placeOf rests (length paid) i) unpaid) 1 0
+
+-- a split that is not refused, and whose fund is below the sum of the wants
+pub record Short (fund sum : ℕ) (wants places : List ℕ) : Type 0 where
+  pub is-sum : sum ≡ total wants
+  pub short : fund < sum
+  pub within : sum ≤ 4_000_000_000
+  pub as-many : length places ≡ length wants
+  pub few : length wants ≤ 64
+
+-- the whole parts are paid, the remainders are kept, and so many cents are unpaid
+pub record WholePaid (fund : ℕ) (wants paid rests : List ℕ) (unpaid : ℕ) : Type 0 where
+  pub whole : paid ≡ listBelow (wholePart fund wants) (length wants)
+  pub rest : (i : ℕ) → i < length wants → getD rests i 0 ≡ remainder fund wants i
+  pub cents : unpaid ≡ unpaidCents fund wants
