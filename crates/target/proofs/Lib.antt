@@ -1,0 +1,4 @@
+pub mod Answer
+pub mod Pass
+pub mod Rounding
+pub mod Worth

@@ -1,0 +1,65 @@
+-- How large a right's worth and an owner's sum can be, with good rights and no wild price.
+-- Assumes nothing.
+use Prim.Native.Nat.{ℕ, suc, _≤_, zero-le}
+use mathlib.Core.Path.{_≡_, refl, sym, ap, subst, _∙_}
+use mathlib.Core.Bool.{Bool, true, false, cond}
+use mathlib.Core.List.{List}
+use native.Mathlib.Nat.{le-refl, le-trans, le-of-eq, mul-le-mul}
+use native.Mathlib.Omega.{arith}
+use lib.Dec.{leb, ltb, eqb}
+use lib.ListN.{length, getD, List·getD-eq-default}
+use lib.IntN.{ℤ, pos, negsuc, natAbs, _-ℤ_, _*ℤ_}
+use lib.Signed.{ltZ}
+use borrow.Author.Tests.{ltb-false, leb-true, leb-false}
+use Rattle.numbers.proofs.Any.{any-miss}
+use Rattle.numbers.proofs.Signed.{abs-sub, abs-mul}
+use Rattle.numbers.proofs.Tests.{neither-true}
+use Rattle.calendar.specs.declared.OperatingHour.{OperatingHour}
+use Rattle.rights.specs.declared.Right.{Right}
+use Rattle.rights.specs.Layout.{isGood, isLive}
+use Rattle.rights.proofs.Good.{good-size}
+use Rattle.target.specs.Target.{priceAt, isWild, wildAt, anyWild, spread, notNegative, counted, worth}
+
+tame : (price : ℤ) → isWild price ≡ false → natAbs price ≤ 500_000
+tame (pos n) e = ltb-false 500_000 n (neither-true false (ltb 500_000 n) e .1)
+tame (negsuc n) e = omega (arith, ltb-false 499_999 n (neither-true (ltb 499_999 n) false e .0))
+
+not-negative-most : (gain : ℤ) → natAbs (notNegative gain) ≤ natAbs gain
+not-negative-most (pos n) = le-refl n
+not-negative-most (negsuc n) = zero-le
+
+counted-most : (option : Bool) (gain : ℤ) → natAbs (cond option (notNegative gain) gain) ≤ natAbs gain
+counted-most true gain = not-negative-most gain
+counted-most false gain = le-refl (natAbs gain)
+
+module _ (prices : List ℤ) (no-wild : anyWild prices ≡ false) where
+  price-most : (node : ℕ) → natAbs (priceAt prices node) ≤ 500_000
+  unfolding anyWild
+  price-most node = by-test (leb (length prices) node) refl
+    where
+      by-test : (test : Bool) → leb (length prices) node ≡ test → natAbs (priceAt prices node) ≤ 500_000
+      by-test true e =
+          rw (List·getD-eq-default prices (pos 0) (leb-true (length prices) node e)) (omega arith)
+      by-test false e =
+          tame (priceAt prices node)
+          (any-miss (wildAt prices) (length prices) node no-wild (leb-false (length prices) node e))
+
+  pub counted-gain-most : (right : Right) → natAbs (counted (right .kind) (spread prices right)) ≤ 1_000_000
+  counted-gain-most right =
+      omega
+      (arith, counted-most (eqb (right .kind) 1) (spread prices right), abs-sub (priceAt prices (right .sink)) (priceAt prices (right .source)), price-most (right .sink), price-most (right .source))
+
+  live-most : (hour : OperatingHour) (right : Right) → isGood right ≡ true
+      → natAbs (pos (right .size) *ℤ counted (right .kind) (spread prices right)) ≤ 100_000_000_000
+  live-most hour right good =
+      le-trans (le-of-eq (abs-mul (pos (right .size)) (counted (right .kind) (spread prices right))))
+      (mul-le-mul (good-size right good) (counted-gain-most right))
+
+  pub worth-most : (hour : OperatingHour) (right : Right) → isGood right ≡ true → natAbs (worth prices hour right) ≤ 100_000_000_000
+  unfolding worth
+  worth-most hour right good = by-test (isLive hour right)
+    where
+      by-test : (live : Bool)
+          → natAbs (cond live (pos (right .size) *ℤ counted (right .kind) (spread prices right)) (pos 0)) ≤ 100_000_000_000
+      by-test true = live-most hour right good
+      by-test false = zero-le
