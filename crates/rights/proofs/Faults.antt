@@ -54,6 +54,9 @@ module _ (prices : ℕ) (file : List ℕ) where
   unfolding namesFault
   names-8 r inside here = rw (lt-ltb _ _ inside, here)
 
-  pub names-none : (refusal : ℕ) → refusal < 7 → namesFault prices file refusal 0 ≡ true
+  pub names-other : (refusal : ℕ) → (refusal ≡ 7 → ⊥) → (refusal ≡ 8 → ⊥) → namesFault prices file refusal 0 ≡ true
   unfolding namesFault
-  names-none refusal below = rw (ne-eqb refusal 7 (λ e. omega arith), ne-eqb refusal 8 (λ e. omega arith))
+  names-other refusal not-7 not-8 = rw (ne-eqb refusal 7 not-7, ne-eqb refusal 8 not-8)
+
+  pub names-none : (refusal : ℕ) → refusal < 7 → namesFault prices file refusal 0 ≡ true
+  names-none refusal below = names-other refusal (λ e. omega arith) (λ e. omega arith)

@@ -7,7 +7,8 @@ use mathlib.Core.Path.{_≡_, refl, sym, ap, _∙_}
 use native.Mathlib.Nat.{eq-or-lt-of-le}
 use native.Mathlib.Omega.{arith}
 use lib.Dec.{ltb, eqb}
-use Rattle.split.specs.Parts.{standsAhead, aheadBy}
+use Rattle.split.specs.Parts.{aheadBy}
+use Rattle.split.specs.Split.{standsAhead}
 use borrow.Author.Tests.{ltb-true, ltb-false, lt-ltb, le-ltb, eq-eqb, ne-eqb}
 
 -- one number is below the other, or not

@@ -1,19 +1,15 @@
 -- What the contracts of the split's inner functions cite: the order by remainders in a list, and what holds between their steps.
 -- Assumes nothing.
 use Prim.Native.Nat.{ℕ, _+_, _<_, _≤_}
-use mathlib.Core.Bool.{Bool, cond, _&&_, _||_}
+use mathlib.Core.Bool.{Bool, cond}
 use mathlib.Core.List.{List}
 use mathlib.Core.Path.{_≡_}
-use lib.Dec.{ltb, eqb}
+use lib.Dec.{ltb}
 use lib.ListN.{length, getD}
 use Rattle.numbers.specs.Lists.{total, countBelow, listBelow}
-use Rattle.split.specs.Split.{wholePart, remainder, unpaidCents}
+use Rattle.split.specs.Split.{wholePart, remainder, unpaidCents, standsAhead}
 
--- owner j with the remainder y stands ahead of owner i with the remainder x
-abbrev pub standsAhead : ℕ → ℕ → ℕ → ℕ → Bool
-standsAhead x i y j = ltb x y || (eqb x y && ltb j i)
-
--- the same by a number for each owner
+-- owner j stands ahead of owner i, by a number for each owner
 abbrev pub aheadBy : (ℕ → ℕ) → ℕ → ℕ → Bool
 aheadBy r i j = standsAhead (r i) i (r j) j
 

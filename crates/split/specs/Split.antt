@@ -26,10 +26,12 @@ remainder fund wants i = fund * want wants i - total wants * wholePart fund want
 unfoldable pub unpaidCents : ℕ → List ℕ → ℕ
 unpaidCents fund wants = fund - total (listBelow (wholePart fund wants) (length wants))
 
--- owner j has "a larger r, or an equal r and a lower number" than owner i
+-- owner j, with the remainder y, has "a larger r, or an equal r and a lower number" than owner i, with the remainder x
+abbrev pub standsAhead : ℕ → ℕ → ℕ → ℕ → Bool
+standsAhead x i y j = ltb x y || (eqb x y && ltb j i)
+
 unfoldable pub isAhead : ℕ → List ℕ → ℕ → ℕ → Bool
-isAhead fund wants i j =
-    ltb (remainder fund wants i) (remainder fund wants j) || (eqb (remainder fund wants i) (remainder fund wants j) && ltb j i)
+isAhead fund wants i j = standsAhead (remainder fund wants i) i (remainder fund wants j) j
 
 -- "owner i gets one exactly if fewer than E others have a larger r, or an equal r and a lower number"
 unfoldable pub getsOddCent : ℕ → List ℕ → ℕ → Bool

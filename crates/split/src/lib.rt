@@ -6,8 +6,8 @@ ghost use mathlib.Core.Bool.{cond};
 ghost use lib.Dec.{ltb};
 ghost use lib.ListN.{length, getD};
 ghost use Rattle.numbers.specs.Lists.{total, listBelow};
-ghost use Rattle.split.specs.Parts.{standsAhead, placeOf, withOddCent, Short, WholePaid};
-ghost use Rattle.split.specs.Split.{payment, allocation, paymentsAfter};
+ghost use Rattle.split.specs.Parts.{placeOf, withOddCent, Short, WholePaid};
+ghost use Rattle.split.specs.Split.{payment, allocation, paymentsAfter, standsAhead};
 
 // A split over more owners is refused.
 pub const MOST_OWNERS: usize = 64;

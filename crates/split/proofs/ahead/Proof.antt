@@ -4,7 +4,8 @@ use mathlib.Core.Bool.{true, false}
 use mathlib.Core.Path.{_∙_}
 use native.Mathlib.Omega.{arith}
 use borrow.Author.Tests.{lt-ltb, le-ltb}
-use Rattle.split.specs.Parts.{standsAhead}
+use Rattle.split.specs.Parts.{}
+use Rattle.split.specs.Split.{standsAhead}
 use Rattle.split.proofs.Order.{one-if, ahead-larger, ahead-tie, ahead-smaller}
 use Rattle.split.proofs.ahead.Statement.{statement}
 use Rattle.split.proofs.ahead.Tie as tie

@@ -11,8 +11,8 @@ use lib.ListN.{length, getD}
 use borrow.Author.Tests.{le-ltb}
 use Rattle.numbers.specs.Lists.{countBelow, listBelow}
 use Rattle.numbers.proofs.Counts.{count-ext, length-listBelow, getD-listBelow, getD-beyond, listBelow-ext, getD-le-total}
-use Rattle.split.specs.Parts.{standsAhead, aheadBy, placeOf, withOddCent, Short, WholePaid}
-use Rattle.split.specs.Split.{wholePart, unpaidCents, isAhead, getsOddCent, payment}
+use Rattle.split.specs.Parts.{aheadBy, placeOf, withOddCent, Short, WholePaid}
+use Rattle.split.specs.Split.{wholePart, unpaidCents, isAhead, getsOddCent, payment, standsAhead}
 use Rattle.split.proofs.Order.{below-or-not}
 use Rattle.split.proofs.Shares.{whole-le-want}
 use Rattle.split.proofs.Laws.{paid-short}
