@@ -1,5 +1,6 @@
 // Draws rights files: records written field by field, faults put into them, and how many bytes are lent.
 ghost use Prim.Native.Nat.{_≤_};
+use rights::Right;
 
 // Room for one record more than a file may have.
 pub const ROOM: usize = 65552;
@@ -127,6 +128,13 @@ pub fn put_fault(file: &mut [u8], record: usize, fault: u64, prices: u64) {
     put(file, at + found.offset, found.bytes, found.number);
 }
 
+// Draws one of so many numbers and puts that fault into one record; the numbers from 16 are no fault.
+pub fn draw_fault(state: &mut u64, numbers: u64, records: usize, prices: usize, file: &mut [u8]) {
+    let fault = draws::below(state, numbers);
+    let place = fault_place(draws::below(state, 4), records);
+    put_fault(file, place, fault, prices as u64);
+}
+
 // The record that gets the fault: the first, a middle one, the last, or the one past those lent.
 pub fn fault_place(place: u64, records: usize) -> usize {
     if place == 0 {
@@ -159,6 +167,18 @@ pub fn byte_count(odd: u64, records: usize) -> usize
         3 => ROOM,
         4 => 65537,
         _ => bytes,
+    }
+}
+
+// The number of lines lent: mostly 64, else none, one too few or one too many.
+pub fn line_count(pick: u64) -> usize
+    ensures { λ r. ⌜ r ≤ 65 ⌝ }
+{
+    match pick {
+        0 => 0,
+        1 => 63,
+        2 => 65,
+        _ => 64,
     }
 }
 
@@ -210,14 +230,14 @@ fn large_or_one(drawn: u64) -> u64 {
     if drawn % 2 == 0 { 100000 } else { 10 }
 }
 
-// A record between four nodes.
-fn draw_small_right(state: &mut u64, styles: Styles) -> Fields {
-    let owner = small_owner(styles.owner, draws::below(state, 64));
+// A record between four nodes. Its class and its size are below these numbers; in one case of four it has not the whole year.
+pub fn draw_right(state: &mut u64, classes: u64, sizes: u64) -> Fields {
+    let owner = draws::below(state, 64);
     let source = draws::below(state, 4);
     let sink = (source + 1 + draws::below(state, 3)) % 4;
     let kind = draws::below(state, 2);
-    let class = least(draws::below(state, 4), 2);
-    let size = small_size(styles.size, draws::below(state, 100000));
+    let class = draws::below(state, classes);
+    let size = draws::below(state, sizes);
     let some_days = draws::below(state, 4) == 0;
     let x = draws::below(state, 365) + 1;
     let y = draws::below(state, 365) + 1;
@@ -231,6 +251,15 @@ fn draw_small_right(state: &mut u64, styles: Styles) -> Fields {
         first: if some_days { least(x, y) } else { 1 },
         last: if some_days { most(x, y) } else { 365 },
     }
+}
+
+// A record of a small file: half of them are of all hours.
+fn draw_small_right(state: &mut u64, styles: Styles) -> Fields {
+    let mut right = draw_right(state, 4, 100000);
+    right.owner = small_owner(styles.owner, right.owner);
+    right.class = least(right.class, 2);
+    right.size = small_size(styles.size, right.size);
+    right
 }
 
 // Draws seven records between four nodes, of which the answer says how many are lent.
@@ -250,4 +279,25 @@ pub fn draw_small_file(state: &mut u64, file: &mut [u8]) -> usize
         number += 1;
     }
     records as usize
+}
+
+// Draws a small file, perhaps with a fault, and gives the number of bytes lent.
+pub fn draw_file(state: &mut u64, file: &mut [u8]) -> usize
+    ensures { λ r. ⌜ r ≤ 65552 ⌝ }
+{
+    let records = draw_small_file(state, file);
+    draw_fault(state, 24, records, 1024, file);
+    byte_count(draws::below(state, 32), records)
+}
+
+// Folds the eight fields of a record in their order.
+pub fn fold_right(digest: &mut u64, right: Right) {
+    draws::fold(digest, right.owner as u64);
+    draws::fold(digest, right.source as u64);
+    draws::fold(digest, right.sink as u64);
+    draws::fold(digest, right.kind as u64);
+    draws::fold(digest, right.class as u64);
+    draws::fold(digest, right.size as u64);
+    draws::fold(digest, right.first as u64);
+    draws::fold(digest, right.last as u64);
 }

@@ -65,6 +65,11 @@ pub fn wrapping_sum(cells: &[u64]) -> u64 {
     sum
 }
 
+// The cell that brings a sum of cells to a goal, modulo 2^64.
+pub fn reaching(cell: u64, sum: u64, goal: u64) -> u64 {
+    std::num::wrapping_add_u64(cell, std::num::wrapping_sub_u64(goal, sum))
+}
+
 // Folds a value into the digest.
 pub fn fold(digest: &mut u64, value: u64) {
     *digest = step(*digest ^ value) ^ 0x9E37_79B9_7F4A_7C15;

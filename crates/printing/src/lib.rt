@@ -40,6 +40,18 @@ pub fn batch_line(batch: u64, counts: &[u64], refusals: &[u8], digest: u64) {
     end();
 }
 
+// A batch's line with the counts of every refusal number that an event can give.
+pub fn event_line(batch: u64, counts: &[u64], digest: u64) {
+    batch_line(batch, counts, &[0, 1, 2, 3, 4, 5, 6, 7, 8, 9, 10], digest);
+}
+
+// The same for a block of a list: the list's number first.
+pub fn block_line(list: u64, block: u64, counts: &[u64], digest: u64) {
+    first(list);
+    io::write_all(STDOUT_FILENO, b" ");
+    event_line(block, counts, digest);
+}
+
 // How often a refusal number came; 0 where it has no cell.
 fn count_of(counts: &[u64], refusal: u8) -> u64 {
     let cell = refusal as usize;

@@ -2,7 +2,6 @@
 ghost use Prim.Native.Nat.{_≤_};
 ghost use lib.ListN.{length};
 ghost use mathlib.Core.Path.{_≡_};
-use rights::Right;
 
 const SEED: u64 = 7046029254386353131;
 
@@ -12,33 +11,11 @@ const FILES: u64 = 8;
 
 const READS: u64 = 8;
 
-// Draws a small file, perhaps with a fault, and gives the number of bytes lent.
-fn draw_file(state: &mut u64, file: &mut [u8]) -> usize
-    ensures { λ r. ⌜ r ≤ 65552 ⌝ }
-{
-    let records = drawn_rights::draw_small_file(state, file);
-    let fault = draws::below(state, 24);
-    let place = drawn_rights::fault_place(draws::below(state, 4), records);
-    drawn_rights::put_fault(file, place, fault, 1024);
-    drawn_rights::byte_count(draws::below(state, 32), records)
-}
-
-fn fold_right(digest: &mut u64, right: Right) {
-    draws::fold(digest, right.owner as u64);
-    draws::fold(digest, right.source as u64);
-    draws::fold(digest, right.sink as u64);
-    draws::fold(digest, right.kind as u64);
-    draws::fold(digest, right.class as u64);
-    draws::fold(digest, right.size as u64);
-    draws::fold(digest, right.first as u64);
-    draws::fold(digest, right.last as u64);
-}
-
 // Reads one record, folds and counts it.
 fn run_read(file: &[u8], record: u64, digest: &mut u64, counts: &mut [u64]) {
     let found = rights::read(file, record);
     draws::fold(digest, found.refusal as u64);
-    fold_right(digest, found.right);
+    drawn_rights::fold_right(digest, found.right);
     draws::count(counts, found.refusal);
 }
 
@@ -55,7 +32,7 @@ fn run_reads(file: &[u8], digest: &mut u64, counts: &mut [u64]) {
 fn run_file(state: &mut u64, file: &mut [u8], digest: &mut u64, counts: &mut [u64])
     requires { ⌜ length (now file) ≡ 65552 ⌝ }
 {
-    let bytes = draw_file(state, file);
+    let bytes = drawn_rights::draw_file(state, file);
     let any = draws::any(state);
     run_reads(&file[..bytes], digest, counts);
     run_read(&file[..bytes], any, digest, counts);

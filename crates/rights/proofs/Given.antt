@@ -18,11 +18,11 @@ pub records-most : (file : List ℕ) → isWrongLength (length file) ≡ false �
 records-most file right = omega (arith, ltb-false 65_536 (length file) (neither-true (not (eqb (length file % 16) 0)) (ltb 65_536 (length file)) right .1))
 
 module _ (file : List ℕ) (number : ℕ) (right : isWrongLength (length file) ≡ false) (inside : number < recordCount file) where
-  read-good : isGood (rightAt file number) ≡ true → reading file number ≡ record { refusal = 0; right = rightAt file number }
+  pub read-good : isGood (rightAt file number) ≡ true → reading file number ≡ record { refusal = 0; right = rightAt file number }
   unfolding reading readRefusal firstRefusal
   read-good good = rw (right, lt-leb (recordCount file) number inside, good)
 
-  read-bad : isGood (rightAt file number) ≡ false → reading file number ≡ refusedReading 7
+  pub read-bad : isGood (rightAt file number) ≡ false → reading file number ≡ refusedReading 7
   unfolding reading readRefusal firstRefusal
   read-bad bad = rw (right, lt-leb (recordCount file) number inside, bad)
 

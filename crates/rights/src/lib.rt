@@ -8,6 +8,17 @@ ghost use Rattle.rights.specs.Layout.{isGood, isLive, isWrongLength, rea
 ghost use Rattle.rights.specs.Faults.{faultAt, fileRefusal, hasFault, isUnpriced, namesFault};
 use calendar::OperatingHour;
 
+mod reader;
+
+pub use reader::Given;
+pub use reader::Reader;
+pub use reader::Taken;
+pub use reader::Took;
+pub use reader::reader_over;
+pub use reader::take_at;
+pub use reader::take_from;
+pub use reader::take_next;
+
 pub const RECORD_BYTES: usize = 16;
 
 pub const FILE_BYTES: usize = 65536;

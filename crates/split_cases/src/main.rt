@@ -94,16 +94,11 @@ fn reach_goal(state: &mut u64, first: u64, sum: u64) -> u64 {
     let goal = draws::below(state, 8);
     let small = draws::below(state, 1000);
     match goal {
-        0 => reaching(first, sum, 4000000000),
-        1 => reaching(first, sum, 4000000001),
-        2 => reaching(first, sum, small),
+        0 => draws::reaching(first, sum, 4000000000),
+        1 => draws::reaching(first, sum, 4000000001),
+        2 => draws::reaching(first, sum, small),
         _ => first,
     }
-}
-
-// The want that brings the sum to the goal.
-fn reaching(first: u64, sum: u64, goal: u64) -> u64 {
-    std::num::wrapping_add_u64(first, std::num::wrapping_sub_u64(goal, sum))
 }
 
 // The fund: around the sum of the wants, or any.

@@ -96,17 +96,6 @@ fn price_count(pick: u64) -> usize
     }
 }
 
-fn line_count(pick: u64) -> usize
-    ensures { λ r. ⌜ r ≤ 65 ⌝ }
-{
-    match pick {
-        0 => 0,
-        1 => 63,
-        2 => 65,
-        _ => 64,
-    }
-}
-
 fn draw_lengths(state: &mut u64) -> Lengths
     ensures { λ r. ⌜ ((r .records) ≤ 4096) × ((r .bytes) ≤ 65552) × ((r .prices) ≤ 1025) × ((r .lines) ≤ 65) ⌝ }
 {
@@ -115,7 +104,7 @@ fn draw_lengths(state: &mut u64) -> Lengths
     let records = record_count(many, few);
     let bytes = drawn_rights::byte_count(draws::below(state, 64), records);
     let prices = price_count(draws::below(state, 16));
-    let lines = line_count(draws::below(state, 64));
+    let lines = drawn_rights::line_count(draws::below(state, 64));
     Lengths {
         records,
         bytes,
@@ -219,13 +208,6 @@ fn draw_records(state: &mut u64, today: u64, file: &mut [u8])
     }
 }
 
-// Puts a fault into one record, in some cases.
-fn draw_fault(state: &mut u64, records: usize, prices: usize, file: &mut [u8]) {
-    let fault = draws::below(state, 40);
-    let place = drawn_rights::fault_place(draws::below(state, 4), records);
-    drawn_rights::put_fault(file, place, fault, prices as u64);
-}
-
 fn price(style: u64, drawn: u64) -> i32 {
     match style {
         0 => draws::around(drawn % 1000001, 500000),
@@ -305,7 +287,7 @@ fn run_case(state: &mut u64, digest: &mut u64) -> u8 {
     let lengths = draw_lengths(state);
     let mut file = [0u8; 65552];
     draw_records(state, (hour / 24) % 365 + 1, &mut file);
-    draw_fault(state, lengths.records, lengths.prices, &mut file);
+    drawn_rights::draw_fault(state, 40, lengths.records, lengths.prices, &mut file);
     let mut prices = [0i32; 1025];
     draw_prices(state, &mut prices);
     draw_wild_price(state, lengths.prices, &mut prices);
