@@ -1,0 +1,15 @@
+pub mod Accepted
+pub mod ClaimHolds
+pub mod Closing
+pub mod EveryList
+pub mod HourSteps
+pub mod Kept
+pub mod KeptHour
+pub mod KeptMonth
+pub mod KeptYear
+pub mod Readings
+pub mod Refusing
+pub mod Sane
+pub mod Shares
+pub mod Signs
+pub mod Spoiled

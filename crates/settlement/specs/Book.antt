@@ -1,0 +1,76 @@
+-- The book: what it holds, when it is spoiled, and which event is due.
+-- Assumes nothing.
+use Prim.Native.Nat.{ℕ, zero, suc, _+_, _*_}
+use mathlib.Core.Bool.{Bool, true, false, not, _&&_, _||_}
+use mathlib.Core.List.{List}
+use lib.Dec.{leb, ltb, eqb}
+use lib.ListN.{getD, replicate}
+use Rattle.numbers.specs.Lists.{total}
+use Rattle.calendar.specs.Year.{hoursInYear, monthsInYear, monthEnd}
+use Rattle.target.specs.Target.{owners}
+use Rattle.settlement.specs.declared.Book.{Book}
+
+-- "all 0 when fresh"
+unfoldable pub fresh : Book
+fresh =
+    record {
+      hours = 0;
+      months = 0;
+      ended = false;
+      monthshort = replicate owners 0;
+      yearshort = replicate owners 0;
+      monthsurplus = 0;
+      yearsurplus = 0;
+    }
+
+-- "a month and a year shortfall for each owner"
+abbrev pub monthShort : Book → ℕ → ℕ
+monthShort book owner = getD (book .monthshort) owner 0
+
+abbrev pub yearShort : Book → ℕ → ℕ
+yearShort book owner = getD (book .yearshort) owner 0
+
+-- "The open shortfall of an owner is its month plus its year cell"
+abbrev pub openShortfall : Book → ℕ → ℕ
+openShortfall book owner = monthShort book owner + yearShort book owner
+
+-- "the fund left is both surpluses"
+abbrev pub fundLeft : Book → ℕ
+fundLeft book = book .monthsurplus + book .yearsurplus
+
+-- all shortfalls together
+abbrev pub allShortfalls : Book → ℕ
+allShortfalls book = total (book .monthshort) + total (book .yearshort)
+
+-- the most cents of shortfalls, of positive targets or of charges
+abbrev pub mostCents : ℕ
+mostCents = 4_000_000_000
+
+-- the most that one hour can bring: the largest amount collected and the most charges
+abbrev pub mostSurplus : ℕ
+mostSurplus = 4_004_000_000_000
+
+-- "the last closed month's end (0 if none)"
+abbrev pub lastEnd : ℕ → ℕ
+lastEnd zero = 0
+lastEnd (suc month) = monthEnd month
+
+-- "hours not between the last closed month's end (0 if none) and the next one's, both included", while there is a next one
+abbrev pub offMonth : Book → Bool
+offMonth book =
+    ltb (book .months) monthsInYear && not (leb (lastEnd (book .months)) (book .hours) && leb (book .hours) (monthEnd (book .months)))
+
+-- 1, spoiled book
+unfoldable pub isSpoiled : Book → Bool
+isSpoiled book =
+    ltb hoursInYear (book .hours)
+    || ltb monthsInYear (book .months)
+    || offMonth book
+    || (eqb (book .months) monthsInYear && not (eqb (book .hours) hoursInYear))
+    || (book .ended && ltb (book .months) monthsInYear)
+    || ltb mostCents (allShortfalls book)
+    || ltb (book .hours * mostSurplus) (fundLeft book)
+
+-- "the hours stand at the next month's end": the month end is due
+unfoldable pub isMonthDue : Book → Bool
+isMonthDue book = ltb (book .months) monthsInYear && eqb (book .hours) (monthEnd (book .months))
