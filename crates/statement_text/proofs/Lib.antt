@@ -1,0 +1,5 @@
+pub mod Decimal
+pub mod Lines
+pub mod Pieces
+pub mod Room
+pub mod Unsigned
