@@ -6,7 +6,7 @@ use mathlib.Core.Bool.{Bool, true, false, cond}
 use native.Mathlib.Omega.{arith}
 use mir.Val.{boolByte}
 use Rattle.calendar.specs.declared.OperatingHour.{OperatingHour}
-use Rattle.calendar.specs.Year.{hoursInYear, monthOf, isPeak, operatingHour}
+use Rattle.calendar.specs.Year.{hoursInYear, isPeak, operatingHour}
 use Rattle.calendar.proofs.Hours.{accepted-inside, refused-outside, refusal-inside, refusal-outside, hour-inside, settledHour, month-most}
 use Rattle.billing.specs.Host.{billingClass}
 

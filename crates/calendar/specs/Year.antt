@@ -1,7 +1,7 @@
 -- The operating year, 1 June 2025 to 31 May 2026: hours, days, months, working days and peak hours.
 -- Assumes nothing.
 use Prim.Native.Nat.{ℕ, _+_, _*_, _/_, _%_}
-use mathlib.Core.Bool.{Bool, true, false, cond, not, _&&_, _||_}
+use mathlib.Core.Bool.{Bool, false, cond, not, _&&_, _||_}
 use mathlib.Core.List.{List, [], _∷_}
 use lib.Dec.{leb, ltb, eqb}
 use lib.ListN.{getD}
@@ -39,6 +39,10 @@ monthEnd month = getD monthEnds month 0
 unfoldable pub endedBy : List ℕ → ℕ → ℕ
 endedBy [] hour = 0
 endedBy (end ∷ ends) hour = cond (leb end hour) 1 0 + endedBy ends hour
+
+-- "the hours stand at the next month's end": with so many months closed, one is open and its end is reached
+abbrev pub isMonthEnd : ℕ → ℕ → Bool
+isMonthEnd hours months = ltb months monthsInYear && eqb hours (monthEnd months)
 
 -- the month of an hour is the number of months that have ended by it
 unfoldable pub monthOf : ℕ → ℕ

@@ -1,12 +1,11 @@
 -- Two's complement of any width, as the code computes it: the upper half by a negation and one less.
 -- Assumes nothing.
 use Prim.Native.Nat.{ℕ, zero, suc, _+_, _-_, _^_, _≤_, _<_}
-use mathlib.Core.Path.{_≡_, refl, sym, ap, _∙_, subst}
+use mathlib.Core.Path.{_≡_, refl, ap, _∙_}
 use mathlib.Core.Bool.{Bool, cond}
-use lib.Dec.{ltb}
 use lib.IntN.{ℤ, pos, negsuc, negℤ, predℤ, _-ℤ_, +ℤ-idl, -ℤ-one}
 use mir.Syntax.{Width}
-use mir.Val.{SFits, hbits, bits, toZ, ofZ}
+use mir.Val.{SFits, hbits, toZ, ofZ}
 use mir.ValLaws.{toZ-ofZ, toZ-pos}
 use borrow.Author.Tests.{lt-ltb, le-ltb}
 use Rattle.numbers.proofs.Signed.{abs-neg, abs-fits}

@@ -1,14 +1,14 @@
 -- Whole numbers of either sign, bounded by their size: laws that the kit's ℤ lacks.
 -- Assumes nothing.
 use Prim.Native.Nat.{ℕ, zero, suc, _+_, _-_, _*_, _/_, _%_, _^_, _≤_, _<_}
-use mathlib.Core.Path.{_≡_, refl, sym, ap, subst, _∙_}
+use mathlib.Core.Path.{_≡_, refl, subst}
 use mathlib.Core.Bool.{Bool, true, false, cond}
 use native.Mathlib.Nat.{le-refl, le-trans, le-suc, lt-of-le-of-lt}
 use native.Mathlib.Omega.{arith}
 use native.Mathlib.Numerals.{add-one}
 use lib.Dec.{ltb}
 use borrow.Author.Tests.{ltb-true}
-use lib.IntN.{ℤ, pos, negsuc, negℤ, natAbs, subℕ, _+ℤ_, _-ℤ_, _*ℤ_}
+use lib.IntN.{ℤ, pos, negsuc, negℤ, natAbs, _+ℤ_, _-ℤ_, _*ℤ_}
 use lib.Signed.{mag, quotZ, remZ}
 use Rattle.numbers.specs.Lists.{sumBelow}
 use mir.Syntax.{Width}

@@ -1,6 +1,6 @@
 -- Joined tests, taken apart.
 -- Assumes nothing.
-use mathlib.Core.Path.{_≡_, refl, sym}
+use mathlib.Core.Path.{_≡_, refl}
 use mathlib.Core.Bool.{Bool, true, false, _&&_, _||_}
 
 -- both tests of an "and" that holds

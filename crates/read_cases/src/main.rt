@@ -1,5 +1,4 @@
 // Drawn reads by record number: each line has the counts of refusals and the digest of a batch's reads.
-ghost use Prim.Native.Nat.{_≤_};
 ghost use lib.ListN.{length};
 ghost use mathlib.Core.Path.{_≡_};
 

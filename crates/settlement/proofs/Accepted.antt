@@ -1,21 +1,19 @@
 -- What an accepted call shows: no row of its refusal table holds.
 -- Assumes nothing.
-use Prim.Native.Nat.{ℕ, _+_, _≤_, _<_}
-use mathlib.Core.Path.{_≡_, refl, sym, ap, _∙_}
-use mathlib.Core.Bool.{Bool, true, false, not, _||_}
-use mathlib.Core.List.{List, [], _∷_}
+use Prim.Native.Nat.{ℕ, _≤_, _<_}
+use mathlib.Core.Path.{_≡_}
+use mathlib.Core.Bool.{true, false}
+use mathlib.Core.List.{List}
 use native.Mathlib.Omega.{arith}
-use lib.Dec.{leb, ltb, eqb}
-use lib.ListN.{length}
+use lib.Dec.{leb, ltb}
 use lib.IntN.{ℤ, pos, negsuc}
-use lib.Signed.{ltZ}
-use borrow.Author.Tests.{ltb-false, leb-false, eqb-true, not-false}
+use borrow.Author.Tests.{ltb-false, leb-false, not-false}
 use Rattle.numbers.proofs.Refusals.{refusal-clear}
 use Rattle.numbers.proofs.Tests.{neither-true}
 use Rattle.calendar.specs.Year.{hoursInYear, monthsInYear}
 use Rattle.settlement.specs.declared.Book.{Book}
 use Rattle.settlement.specs.Book.{allShortfalls, mostCents, mostSurplus, isMonthDue}
-use Rattle.settlement.specs.Events.{Call, hourCall, monthEndCall, yearEndCall, positive, charges, fund, demand, bookAfter, isOutOfTurn, isWildAmount, isTooLarge, isCarryFull, refusal}
+use Rattle.settlement.specs.Events.{hourCall, monthEndCall, yearEndCall, positive, charges, fund, demand, bookAfter, isOutOfTurn, isWildAmount, isTooLarge, isCarryFull, refusal}
 
 -- an accepted hour
 pub record HourAccepted (file : List ℕ) (prices : List ℤ) (collected : ℤ) (book : Book) : Type 0 where

@@ -1,30 +1,27 @@
 -- Demand 3: the claim holds of every ledger; and every list of calls has a ledger.
 -- Assumes nothing.
-use Prim.Native.Nat.{ℕ, zero, suc, _+_, _≤_, _<_}
-use mathlib.Core.Path.{_≡_, refl, sym, ap, subst, _∙_}
-use mathlib.Core.Bool.{Bool, true, false, false≢true}
-use mathlib.Core.Logic.{_⊎_}
+use Prim.Native.Nat.{ℕ, _<_}
+use mathlib.Core.Path.{_≡_, refl, sym, subst, _∙_}
+use mathlib.Core.Bool.{true, false, false≢true}
 use mathlib.Core.List.{List, [], _∷_}
 use native.Mathlib.Decide.{ℕ-discrete}
 use native.Mathlib.Nat.{le-antisymm}
 use native.Mathlib.Omega.{arith}
 use lib.ListN.{length}
 use lib.IntN.{ℤ}
-use Rattle.numbers.specs.Lists.{total, listBelow}
-use Rattle.numbers.specs.Refusals.{firstRefusal}
 use Rattle.numbers.proofs.Refusals.{answer-refused, refusal-is, refusal-never}
 use Rattle.calendar.specs.Year.{monthsInYear}
-use Rattle.target.specs.Target.{owners, target}
+use Rattle.target.specs.Target.{owners}
 use Rattle.settlement.specs.declared.Book.{Book}
 use Rattle.settlement.specs.declared.Settled.{Settled}
-use Rattle.settlement.specs.Book.{fresh, openShortfall, fundLeft, isSpoiled}
-use Rattle.settlement.specs.Events.{Call, hourCall, monthEndCall, yearEndCall, positive, wanted, wants, fund, demand, paid, lines, bookAfter, refusal, Answered}
-use Rattle.settlement.specs.Ledger.{Entry, bookAt, IsLedger, sumOver, sumSince, hourCount, yearEndCount, positiveTarget, credit, hourCredit, charge, collection, ofAll}
-use Rattle.settlement.specs.Claim.{IsOwed, IsFund, WithinACent, Shared, Sound, SoundAtEach, Claim}
+use Rattle.settlement.specs.Book.{isSpoiled}
+use Rattle.settlement.specs.Events.{Call, hourCall, monthEndCall, yearEndCall, wanted, wants, fund, demand, lines, bookAfter, refusal, Answered}
+use Rattle.settlement.specs.Ledger.{Entry, bookAt, IsLedger}
+use Rattle.settlement.specs.Claim.{IsOwed, IsFund, Shared, Sound, SoundAtEach, Claim}
 use Rattle.settlement.proofs.Shares.{paid-most, near}
 use Rattle.settlement.proofs.Sane.{not-spoiled}
 use Rattle.settlement.proofs.Accepted.{hour-accepted, month-accepted, year-accepted}
-use Rattle.settlement.proofs.Readings.{Parts, refused-nothing, by-table, written-is, book-is, fund-is, demand-is, accepted-parts}
+use Rattle.settlement.proofs.Readings.{Parts, refused-nothing, written-is, book-is, fund-is, demand-is, accepted-parts}
 use Rattle.settlement.proofs.Kept.{Kept, kept-fresh, kept-refused}
 use Rattle.settlement.proofs.KeptHour.{hourEntry, kept-hour, target-is, brought}
 use Rattle.settlement.proofs.KeptMonth.{monthEntry, kept-month}

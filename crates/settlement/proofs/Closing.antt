@@ -2,10 +2,9 @@
 -- Assumes nothing.
 use Prim.Native.Nat.{ℕ, _+_, _-_, _≤_, _<_}
 use mathlib.Core.Path.{_≡_, refl, sym, ap, ap₂, _∙_}
-use mathlib.Core.Bool.{true}
 use mathlib.Core.List.{List}
 use native.Mathlib.Omega.{arith}
-use lib.ListN.{length, getD, replicate, getD-replicate}
+use lib.ListN.{length, getD, getD-replicate}
 use lib.IntN.{ℤ, pos}
 use borrow.Author.Tests.{le-ltb, eq-eqb}
 use Rattle.numbers.specs.Lists.{total, listBelow}
@@ -17,8 +16,7 @@ use Rattle.split.proofs.Laws.{payment-at, payments-at-most, closes}
 use Rattle.target.specs.Target.{owners}
 use Rattle.settlement.specs.declared.Book.{Book}
 use Rattle.settlement.specs.declared.payment.Paid.{Paid}
-use Rattle.settlement.specs.declared.Settled.{Settled}
-use Rattle.settlement.specs.Events.{Call, monthEndCall, yearEndCall, hourLine, wanted, wants, fund, demand, paid, unpaid, leftOver, line, lines, bookAfter}
+use Rattle.settlement.specs.Events.{Call, monthEndCall, yearEndCall, hourLine, wanted, wants, fund, demand, paid, unpaid, leftOver, line, lines}
 use Rattle.settlement.specs.Parts.{sums, rests, linesOf, paidFrom, closingLines}
 
 -- a list of 64 cells is the list of its cells

@@ -1,15 +1,13 @@
 -- Every list of calls has a ledger with just those calls in that order, so the claim is never empty.
 -- Assumes nothing.
-use Prim.Native.Nat.{ℕ, _<_}
-use mathlib.Core.Path.{_≡_, refl, sym, ap, subst, _∙_}
-use mathlib.Core.Bool.{Bool, true, false}
+use Prim.Native.Nat.{ℕ}
+use mathlib.Core.Path.{_≡_, refl, ap}
+use mathlib.Core.Bool.{true}
 use mathlib.Core.List.{List, [], _∷_, map}
 use native.Mathlib.Decide.{ℕ-discrete}
 use native.Mathlib.Omega.{arith}
-use lib.Dec.{eqb}
 use lib.ListN.{length}
 use lib.IntN.{ℤ}
-use borrow.Author.Tests.{ne-eqb}
 use Rattle.numbers.specs.Refusals.{answerBy}
 use Rattle.numbers.proofs.Any.{any-find}
 use Rattle.numbers.proofs.Refusals.{refusal-skip, refusal-is, refusal-never}

@@ -19,7 +19,6 @@ use Rattle.split.proofs.Laws.{payments-at-most, closes}
 use Rattle.target.specs.Target.{owners, target, targets}
 use Rattle.settlement.specs.declared.Book.{Book}
 use Rattle.settlement.specs.declared.payment.Paid.{Paid}
-use Rattle.settlement.specs.declared.Settled.{Settled}
 use Rattle.settlement.specs.declared.payment.Shares.{Shares}
 use Rattle.settlement.specs.Book.{mostCents}
 use Rattle.settlement.specs.Events.{hourCall, positive, negative, nextTarget, wanted, wants, charges, fund, demand, paid, unpaid, leftOver, hourLine, line, lines, monthAfterHour, bookAfter, isTooLarge, isCarryFull}

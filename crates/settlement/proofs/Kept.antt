@@ -1,20 +1,20 @@
 -- What ties a book to the entries that led to it. It holds of the fresh book and is kept by every call.
 -- Assumes nothing.
-use Prim.Native.Nat.{ℕ, _+_, _≤_, _<_, zero-le}
+use Prim.Native.Nat.{ℕ, _+_, _<_, zero-le}
 use mathlib.Core.Path.{_≡_, refl, sym, ap, subst, _∙_}
-use mathlib.Core.Bool.{true, false, true≢false, false≢true}
+use mathlib.Core.Bool.{true, false, false≢true}
 use mathlib.Core.Logic.{_⊎_}
 use mathlib.Core.List.{List, [], _∷_}
 use native.Mathlib.Nat.{not-suc-le-zero}
 use native.Mathlib.Omega.{arith}
-use lib.ListN.{length, getD, getD-replicate}
+use lib.ListN.{length, getD-replicate}
 use Rattle.numbers.specs.Lists.{total}
 use Rattle.calendar.specs.Year.{monthsInYear}
 use Rattle.target.specs.Target.{owners}
 use Rattle.settlement.specs.declared.Book.{Book}
 use Rattle.settlement.specs.Book.{fresh, monthShort, openShortfall, fundLeft}
 use Rattle.settlement.specs.Ledger.{Entry, sumOver, sumSince, hourCount, monthEndCount, yearEndCount, positiveTarget, credit, hourCredit, charge, collection, ofAll}
-use Rattle.settlement.proofs.Readings.{Nothing, refused-nothing, over-next, since-next, none-of-all}
+use Rattle.settlement.proofs.Readings.{Nothing, over-next, since-next, none-of-all}
 use Rattle.settlement.proofs.Sane.{Sane}
 
 pub record Kept (past : List Entry) (book : Book) : Type 0 where

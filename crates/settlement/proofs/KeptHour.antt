@@ -1,23 +1,22 @@
 -- An accepted hour keeps the tie between the book and its entries.
 -- Assumes nothing.
-use Prim.Native.Nat.{ℕ, _+_, _≤_, _<_}
-use mathlib.Core.Path.{_≡_, refl, sym, ap, subst, _∙_}
+use Prim.Native.Nat.{ℕ, _+_, _<_}
+use mathlib.Core.Path.{_≡_, sym, ap, _∙_}
 use mathlib.Core.Bool.{Bool, true, false, _&&_, true≢false}
 use mathlib.Core.List.{List, _∷_}
 use native.Mathlib.Omega.{arith}
-use lib.Dec.{ltb, eqb}
-use lib.ListN.{length, getD}
+use lib.Dec.{eqb}
 use lib.IntN.{ℤ}
 use borrow.Author.Tests.{lt-ltb, eqb-false}
 use Rattle.numbers.specs.Lists.{total, listBelow}
 use Rattle.numbers.proofs.Counts.{length-listBelow, getD-listBelow}
-use Rattle.calendar.specs.Year.{hoursInYear, monthsInYear, monthEnd}
+use Rattle.calendar.specs.Year.{monthsInYear, monthEnd}
 use Rattle.target.specs.Target.{owners, target}
 use Rattle.settlement.specs.declared.Book.{Book}
 use Rattle.settlement.specs.declared.Settled.{Settled}
 use Rattle.settlement.specs.Book.{monthShort, isMonthDue}
-use Rattle.settlement.specs.Events.{Call, hourCall, positive, negative, nextTarget, wanted, charges, fund, paid, unpaid, leftOver, monthAfterHour, bookAfter}
-use Rattle.settlement.specs.Ledger.{Entry, bookAt, sumOver, sumSince, hourCount, monthEndCount, yearEndCount, positiveTarget, credit, hourCredit, charge, collection, ofAll}
+use Rattle.settlement.specs.Events.{Call, hourCall, positive, negative, nextTarget, wanted, charges, fund, paid, unpaid, monthAfterHour, bookAfter}
+use Rattle.settlement.specs.Ledger.{Entry, bookAt, hourCount, monthEndCount, yearEndCount, positiveTarget, credit, hourCredit, charge, collection, ofAll}
 use Rattle.settlement.proofs.Shares.{paid-unpaid, paid-closes, left-most, charge-is}
 use Rattle.settlement.proofs.Sane.{Sane}
 use Rattle.settlement.proofs.Accepted.{HourAccepted}

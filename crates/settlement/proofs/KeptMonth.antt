@@ -1,8 +1,8 @@
 -- An accepted month end keeps the tie between the book and its entries.
 -- Assumes nothing.
-use Prim.Native.Nat.{ℕ, suc, _+_, _≤_, _<_, zero-le}
+use Prim.Native.Nat.{ℕ, _+_, _≤_, _<_}
 use mathlib.Core.Path.{_≡_, refl, sym, ap, subst, _∙_}
-use mathlib.Core.Bool.{Bool, true, false, _&&_, true≢false}
+use mathlib.Core.Bool.{Bool, true, false, true≢false}
 use mathlib.Core.List.{List, _∷_}
 use native.Mathlib.Nat.{le-of-eq}
 use native.Mathlib.Numerals.{add-one}
@@ -15,13 +15,13 @@ use Rattle.numbers.specs.Lists.{total, listBelow, anyBelow}
 use Rattle.numbers.proofs.Any.{any-miss}
 use Rattle.numbers.proofs.Counts.{length-listBelow, getD-listBelow, listBelow-getD, total-add, total-mono}
 use Rattle.numbers.proofs.Tests.{both-true}
-use Rattle.calendar.specs.Year.{hoursInYear, monthsInYear, monthEnd}
+use Rattle.calendar.specs.Year.{monthsInYear, monthEnd}
 use Rattle.target.specs.Target.{owners}
 use Rattle.settlement.specs.declared.Book.{Book}
 use Rattle.settlement.specs.declared.Settled.{Settled}
-use Rattle.settlement.specs.Book.{monthShort, yearShort, lastEnd, isMonthDue}
+use Rattle.settlement.specs.Book.{monthShort, yearShort, isMonthDue}
 use Rattle.settlement.specs.Events.{monthEndCall, wanted, fund, paid, unpaid, leftOver, bookAfter}
-use Rattle.settlement.specs.Ledger.{Entry, bookAt, sumOver, sumSince, hourCount, monthEndCount, yearEndCount, positiveTarget, credit, hourCredit, charge, collection, ofAll}
+use Rattle.settlement.specs.Ledger.{Entry, bookAt, hourCount, monthEndCount, yearEndCount, positiveTarget, credit, hourCredit, charge, collection, ofAll}
 use Rattle.settlement.proofs.Shares.{paid-unpaid, unpaid-most, paid-closes, left-most}
 use Rattle.settlement.proofs.Sane.{Sane}
 use Rattle.settlement.proofs.Readings.{Parts, over-next, since-closed, none-of-all}

@@ -1,14 +1,13 @@
 -- An accepted year end keeps the tie between the book and its entries, and leaves the fund empty or nobody short.
 -- Assumes nothing.
 use Prim.Native.Nat.{ℕ, _+_, _≤_, _<_}
-use mathlib.Core.Path.{_≡_, refl, sym, ap, subst, _∙_}
+use mathlib.Core.Path.{_≡_, refl, subst}
 use mathlib.Core.Bool.{Bool, true, false}
 use mathlib.Core.Logic.{_⊎_, inl, inr}
 use mathlib.Core.List.{List, _∷_}
 use native.Mathlib.Nat.{le-antisymm}
 use native.Mathlib.Omega.{arith}
 use lib.Dec.{leb}
-use lib.ListN.{length, getD}
 use lib.IntN.{ℤ}
 use borrow.Author.Tests.{leb-true, leb-false}
 use Rattle.numbers.specs.Lists.{total, listBelow}
@@ -17,9 +16,9 @@ use Rattle.calendar.specs.Year.{monthsInYear}
 use Rattle.target.specs.Target.{owners}
 use Rattle.settlement.specs.declared.Book.{Book}
 use Rattle.settlement.specs.declared.Settled.{Settled}
-use Rattle.settlement.specs.Book.{monthShort, yearShort, openShortfall, fundLeft}
+use Rattle.settlement.specs.Book.{yearShort, openShortfall, fundLeft}
 use Rattle.settlement.specs.Events.{yearEndCall, wanted, fund, demand, paid, unpaid, leftOver, bookAfter}
-use Rattle.settlement.specs.Ledger.{Entry, bookAt, sumOver, sumSince, hourCount, monthEndCount, yearEndCount, positiveTarget, credit, hourCredit, charge, collection, ofAll}
+use Rattle.settlement.specs.Ledger.{Entry, bookAt, hourCount, monthEndCount, yearEndCount, positiveTarget, credit, hourCredit, charge, collection, ofAll}
 use Rattle.settlement.proofs.Shares.{paid-unpaid, unpaid-most, paid-closes, left-most, all-paid, none-left}
 use Rattle.settlement.proofs.Sane.{Sane}
 use Rattle.settlement.proofs.Readings.{Parts, over-next, since-next, none-of-all}

@@ -1,10 +1,8 @@
 -- What is read from an entry: nothing of a refused one, and of an accepted one what the rules give on the book before it.
 -- Assumes nothing.
-use Prim.Native.Nat.{ℕ, zero, suc, _+_, _<_}
-use mathlib.Core.Path.{_≡_, refl, sym, ap, ap₂, _∙_}
-use mathlib.Core.List.{List, [], _∷_}
-use native.Mathlib.Nat.{zero-add}
-use native.Mathlib.Omega.{arith}
+use Prim.Native.Nat.{ℕ, _+_, _<_}
+use mathlib.Core.Path.{_≡_, refl, sym, ap, _∙_}
+use mathlib.Core.List.{List, _∷_}
 use lib.ListN.{length, getD}
 use lib.IntN.{ℤ, pos}
 use Rattle.numbers.specs.Lists.{total, listBelow}
@@ -12,8 +10,7 @@ use Rattle.numbers.specs.Refusals.{answerBy}
 use Rattle.numbers.proofs.Refusals.{answer-accepted, answer-refused}
 use Rattle.numbers.proofs.Counts.{listBelow-ext}
 use Rattle.target.specs.Target.{owners}
-use Rattle.settlement.specs.declared.Book.{Book}
-use Rattle.settlement.specs.Events.{Call, positive, negative, fund, demand, paid, line, lines, bookAfter, refusal, Answered}
+use Rattle.settlement.specs.Events.{positive, negative, fund, demand, paid, line, lines, bookAfter, refusal, Answered}
 use Rattle.settlement.specs.Ledger.{Entry, bookAt, ifAccepted, atHour, atMonthEnd, atYearEnd, hourCount, monthEndCount, yearEndCount, sumOver, sumSince, callPositive, positiveTarget, lineOf, credit, hourCredit, charge, callAmount, collection, ofAll}
 use Rattle.settlement.proofs.Shares.{line-is, credit-is}
 

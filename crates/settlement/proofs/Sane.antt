@@ -1,14 +1,14 @@
 -- A book that is not spoiled, part by part.
 -- Assumes nothing.
-use Prim.Native.Nat.{ℕ, zero, suc, _+_, _*_, _≤_, _<_}
-use mathlib.Core.Path.{_≡_, refl, sym, ap, _∙_}
-use mathlib.Core.Bool.{Bool, true, false, not, _&&_, _||_}
+use Prim.Native.Nat.{_*_, _≤_, _<_}
+use mathlib.Core.Path.{_≡_, refl}
+use mathlib.Core.Bool.{Bool, true, false, not, _&&_}
 use native.Mathlib.Omega.{arith}
-use lib.Dec.{leb, ltb, eqb}
-use borrow.Author.Tests.{le-ltb, lt-ltb, le-leb, ltb-true, ltb-false, eqb-true, eq-eqb, ne-eqb}
+use lib.Dec.{ltb, eqb}
+use borrow.Author.Tests.{le-ltb, le-leb, ltb-true, eqb-true, eq-eqb}
 use Rattle.calendar.specs.Year.{hoursInYear, monthsInYear, monthEnd}
 use Rattle.settlement.specs.declared.Book.{Book}
-use Rattle.settlement.specs.Book.{allShortfalls, fundLeft, mostCents, mostSurplus, lastEnd, offMonth, isSpoiled}
+use Rattle.settlement.specs.Book.{allShortfalls, fundLeft, mostCents, mostSurplus, lastEnd, offMonth, outOfStep, isSpoiled}
 
 pub record Sane (book : Book) : Type 0 where
   pub hoursMost : book .hours ≤ hoursInYear
@@ -21,10 +21,10 @@ pub record Sane (book : Book) : Type 0 where
   pub surplusMost : fundLeft book ≤ book .hours * mostSurplus
 
 module _ (book : Book) (sane : Sane book) where
-  on-month : offMonth book ≡ false
+  on-month : offMonth (book .hours) (book .months) ≡ false
   on-month = by-test (ltb (book .months) monthsInYear) refl
     where
-      by-test : (test : Bool) → ltb (book .months) monthsInYear ≡ test → offMonth book ≡ false
+      by-test : (test : Bool) → ltb (book .months) monthsInYear ≡ test → offMonth (book .hours) (book .months) ≡ false
       by-test true e =
           rw
           (e, le-leb (lastEnd (book .months)) (book .hours) (sane .afterLast (ltb-true _ _ e)), le-leb (book .hours) (monthEnd (book .months)) (sane .beforeNext (ltb-true _ _ e)))
@@ -46,7 +46,7 @@ module _ (book : Book) (sane : Sane book) where
       by-test false e = rw e
 
   pub not-spoiled : isSpoiled book ≡ false
-  unfolding isSpoiled
+  unfolding isSpoiled outOfStep
   not-spoiled =
       rw
       (le-ltb hoursInYear (book .hours) (sane .hoursMost), le-ltb monthsInYear (book .months) (sane .monthsMost), on-month, whole-year, ended-whole, le-ltb mostCents (allShortfalls book) (sane .shortMost), le-ltb (book .hours * mostSurplus) (fundLeft book) (sane .surplusMost))

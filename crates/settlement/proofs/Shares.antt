@@ -1,7 +1,7 @@
 -- What the split's laws say of an event: what it pays, what stays unpaid, what is left; for any call and any book.
 -- Assumes nothing.
-use Prim.Native.Nat.{ℕ, _+_, _-_, _*_, _≤_, _<_}
-use mathlib.Core.Path.{_≡_, refl, sym, ap, subst, _∙_}
+use Prim.Native.Nat.{ℕ, _+_, _-_, _≤_, _<_}
+use mathlib.Core.Path.{_≡_, refl, sym, subst}
 use mathlib.Core.List.{List}
 use native.Mathlib.Omega.{arith}
 use lib.ListN.{length, getD}
@@ -9,10 +9,10 @@ use lib.IntN.{ℤ, pos, negsuc}
 use Rattle.numbers.specs.Lists.{total, listBelow}
 use Rattle.numbers.proofs.Counts.{length-listBelow, getD-listBelow}
 use Rattle.split.specs.Split.{want, payment, payments, left}
-use Rattle.split.proofs.Laws.{at-most-want, closes, paid-in-full, within-a-cent, wants-nothing, nothing-left}
+use Rattle.split.proofs.Laws.{at-most-want, closes, paid-in-full, within-a-cent, nothing-left}
 use Rattle.target.specs.Target.{owners}
 use Rattle.settlement.specs.declared.Book.{Book}
-use Rattle.settlement.specs.Events.{Call, hourCall, monthEndCall, yearEndCall, positive, negative, hourLine, nextTarget, wanted, wants, charges, fund, demand, paid, unpaid, leftOver, line, lines}
+use Rattle.settlement.specs.Events.{Call, hourCall, monthEndCall, yearEndCall, positive, negative, hourLine, nextTarget, wanted, wants, fund, demand, paid, unpaid, leftOver, line, lines}
 use Rattle.settlement.specs.Claim.{WithinACent}
 
 module _ (call : Call) (book : Book) where

@@ -9,8 +9,7 @@ use borrow.Author.Tests.{ltb-false, lt-ltb, le-ltb}
 use Rattle.numbers.proofs.Tests.{neither-true}
 use Rattle.calendar.specs.Year.{hoursInYear, monthsInYear, monthEnd}
 use Rattle.settlement.specs.declared.Book.{Book}
-use Rattle.settlement.specs.Book.{lastEnd, mostCents, mostSurplus, allShortfalls, fundLeft, isSpoiled}
-use Rattle.settlement.specs.Parts.{outOfStep}
+use Rattle.settlement.specs.Book.{lastEnd, mostCents, mostSurplus, allShortfalls, fundLeft, outOfStep, isSpoiled}
 
 -- the last closed month, where one is closed
 pub last-closed : (months : ℕ) → (months ≡ 0 → ⊥) → monthEnd (months - 1) ≡ lastEnd months
@@ -43,7 +42,7 @@ module _ (book : Book) where
 
   -- by the steps, the shortfalls and the surpluses
   pub spoiled-by : isSpoiled book ≡ (isAstray || isOver || ltb (book .hours * mostSurplus) (fundLeft book))
-  unfolding isSpoiled outOfStep
+  unfolding isSpoiled
   spoiled-by = refl
 
   pub spoiled-by-steps : isAstray ≡ true → true ≡ isSpoiled book

@@ -1,12 +1,11 @@
 -- The book: what it holds, when it is spoiled, and which event is due.
 -- Assumes nothing.
 use Prim.Native.Nat.{ℕ, zero, suc, _+_, _*_}
-use mathlib.Core.Bool.{Bool, true, false, not, _&&_, _||_}
-use mathlib.Core.List.{List}
+use mathlib.Core.Bool.{Bool, false, not, _&&_, _||_}
 use lib.Dec.{leb, ltb, eqb}
 use lib.ListN.{getD, replicate}
 use Rattle.numbers.specs.Lists.{total}
-use Rattle.calendar.specs.Year.{hoursInYear, monthsInYear, monthEnd}
+use Rattle.calendar.specs.Year.{hoursInYear, monthsInYear, monthEnd, isMonthEnd}
 use Rattle.target.specs.Target.{owners}
 use Rattle.settlement.specs.declared.Book.{Book}
 
@@ -56,21 +55,27 @@ lastEnd zero = 0
 lastEnd (suc month) = monthEnd month
 
 -- "hours not between the last closed month's end (0 if none) and the next one's, both included", while there is a next one
-abbrev pub offMonth : Book → Bool
-offMonth book =
-    ltb (book .months) monthsInYear && not (leb (lastEnd (book .months)) (book .hours) && leb (book .hours) (monthEnd (book .months)))
+abbrev pub offMonth : ℕ → ℕ → Bool
+offMonth hours months = ltb months monthsInYear && not (leb (lastEnd months) hours && leb hours (monthEnd months))
 
--- 1, spoiled book
+-- the cases of 1 by hours, months and mark alone: "hours above 8,760; months closed above 12; hours not between ..; hours not 8,760 with
+-- 12 months closed; ended with months below 12"
+unfoldable pub outOfStep : ℕ → ℕ → Bool → Bool
+outOfStep hours months ended =
+    ltb hoursInYear hours
+    || ltb monthsInYear months
+    || offMonth hours months
+    || (eqb months monthsInYear && not (eqb hours hoursInYear))
+    || (ended && ltb months monthsInYear)
+
+-- 1, spoiled book: those cases, and "all shortfalls together above 4,000,000,000; surpluses together above hours times
+-- 4,004,000,000,000"
 unfoldable pub isSpoiled : Book → Bool
 isSpoiled book =
-    ltb hoursInYear (book .hours)
-    || ltb monthsInYear (book .months)
-    || offMonth book
-    || (eqb (book .months) monthsInYear && not (eqb (book .hours) hoursInYear))
-    || (book .ended && ltb (book .months) monthsInYear)
+    outOfStep (book .hours) (book .months) (book .ended)
     || ltb mostCents (allShortfalls book)
     || ltb (book .hours * mostSurplus) (fundLeft book)
 
 -- "the hours stand at the next month's end": the month end is due
 unfoldable pub isMonthDue : Book → Bool
-isMonthDue book = ltb (book .months) monthsInYear && eqb (book .hours) (monthEnd (book .months))
+isMonthDue book = isMonthEnd (book .hours) (book .months)

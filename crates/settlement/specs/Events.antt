@@ -1,15 +1,15 @@
 -- The three events of a book: their refusals, F, D, the lines and the book after them.
 -- Assumes nothing.
-use Prim.Native.Nat.{ℕ, zero, suc, _+_, _-_}
+use Prim.Native.Nat.{ℕ, suc, _+_, _-_}
 use mathlib.Core.Path.{_≡_}
-use mathlib.Core.Bool.{Bool, true, false, not, _||_}
-use mathlib.Core.List.{List, [], _∷_, map}
+use mathlib.Core.Bool.{Bool, true, not, _||_}
+use mathlib.Core.List.{List, [], _∷_}
 use lib.Dec.{leb, ltb, eqb}
-use lib.ListN.{length, getD, replicate}
+use lib.ListN.{length, replicate}
 use lib.IntN.{ℤ, pos, negsuc}
 use lib.Signed.{ltZ}
 use Rattle.numbers.specs.Lists.{total, listBelow}
-use Rattle.numbers.specs.Refusals.{Row, _if_, firstRefusal, answerBy}
+use Rattle.numbers.specs.Refusals.{_if_, firstRefusal, answerBy}
 use Rattle.calendar.specs.Year.{hoursInYear, monthsInYear}
 use Rattle.rights.specs.Layout.{isWrongLength}
 use Rattle.rights.specs.Faults.{anyFault, namesFault}
@@ -144,8 +144,11 @@ isOutOfTurn monthEndCall book = not (isMonthDue book)
 isOutOfTurn yearEndCall book = ltb (book .months) monthsInYear
 
 -- 6: "collected below 0 or above 4,000,000,000,000"
+abbrev pub mostCollected : ℕ
+mostCollected = 4_000_000_000_000
+
 abbrev pub isWildAmount : ℤ → Bool
-isWildAmount collected = ltZ collected (pos 0) || ltZ (pos 4_000_000_000_000) collected
+isWildAmount collected = ltZ collected (pos 0) || ltZ (pos mostCollected) collected
 
 -- 9: "positive targets, or charges, above 4,000,000,000 in total"
 unfoldable pub isTooLarge : List ℕ → List ℤ → ℤ → Book → Bool

@@ -2,14 +2,13 @@
 -- Assumes nothing.
 use Prim.Native.Nat.{ℕ, _+_, _-_}
 use mathlib.Core.Path.{_≡_}
-use mathlib.Core.Bool.{Bool, not, _&&_, _||_}
+use mathlib.Core.Bool.{Bool, not, _||_}
 use mathlib.Core.List.{List, [], _∷_}
-use lib.Dec.{leb, ltb, eqb}
+use lib.Dec.{ltb, eqb}
 use lib.ListN.{length, getD, replicate}
 use lib.IntN.{ℤ, pos}
 use Rattle.numbers.specs.Lists.{total, listBelow}
 use Rattle.numbers.specs.Refusals.{Row, _if_, firstRefusal}
-use Rattle.calendar.specs.Year.{hoursInYear, monthsInYear, monthEnd}
 use Rattle.rights.specs.Layout.{isWrongLength}
 use Rattle.rights.specs.Faults.{anyFault}
 use Rattle.split.specs.Split.{payments, left}
@@ -17,25 +16,12 @@ use Rattle.target.specs.Target.{owners, isWrongPriceCount, anyWild}
 use Rattle.settlement.specs.declared.Book.{Book}
 use Rattle.settlement.specs.declared.payment.Paid.{Paid}
 use Rattle.settlement.specs.declared.payment.Shares.{Shares}
-use Rattle.settlement.specs.Book.{mostCents, lastEnd, isSpoiled}
+use Rattle.settlement.specs.Book.{mostCents, isSpoiled}
 use Rattle.settlement.specs.Events.{positive, negative, hourLine, isWildAmount}
 
 -- one cent above the most: what a sum is once it has passed the limit
 abbrev pub pastMost : ℕ
 pastMost = 4_000_000_001
-
--- the most cents collected in an hour that is not refused
-abbrev pub mostCollected : ℕ
-mostCollected = 4_000_000_000_000
-
--- a spoiled book by its hours, months and mark alone
-unfoldable pub outOfStep : ℕ → ℕ → Bool → Bool
-outOfStep hours months ended =
-    ltb hoursInYear hours
-    || ltb monthsInYear months
-    || (ltb months monthsInYear && not (leb (lastEnd months) hours && leb hours (monthEnd months)))
-    || (eqb months monthsInYear && not (eqb hours hoursInYear))
-    || (ended && ltb months monthsInYear)
 
 -- the rows that every event has
 unfoldable pub earlyRows : Book → Bool → ℕ → List Row

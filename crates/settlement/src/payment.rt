@@ -4,7 +4,8 @@ ghost use mathlib.Core.Path.{_≡_};
 ghost use lib.ListN.{length};
 ghost use Rattle.numbers.specs.Lists.{total};
 ghost use Rattle.settlement.specs.Book.{mostCents};
-ghost use Rattle.settlement.specs.Parts.{mostCollected, paidFrom, closingLines, Shared, noShares};
+ghost use Rattle.settlement.specs.Events.{mostCollected};
+ghost use Rattle.settlement.specs.Parts.{paidFrom, closingLines, Shared, noShares};
 use crate::cells;
 use crate::owner;
 

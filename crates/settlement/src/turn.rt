@@ -1,11 +1,9 @@
 // Which event is due on a book, and whether the book is spoiled.
 ghost use mathlib.Core.Path.{_≡_};
-ghost use mathlib.Core.Bool.{not, _&&_};
-ghost use lib.Dec.{leb, ltb, eqb};
 ghost use Rattle.numbers.specs.Refusals.{firstRefusal};
-ghost use Rattle.calendar.specs.Year.{monthsInYear, monthEnd};
-ghost use Rattle.settlement.specs.Book.{lastEnd, isSpoiled};
-ghost use Rattle.settlement.specs.Parts.{outOfStep, earlyRows};
+ghost use Rattle.calendar.specs.Year.{isMonthEnd};
+ghost use Rattle.settlement.specs.Book.{lastEnd, offMonth, outOfStep, isSpoiled};
+ghost use Rattle.settlement.specs.Parts.{earlyRows};
 use crate::Book;
 use crate::cells;
 
@@ -71,7 +69,7 @@ fn is_out_of_step(hours: u64, months: u64, ended: bool) -> bool
 
 // Whether the hours stand outside the month that is open.
 fn is_off_month(hours: u64, months: u64) -> bool
-    ensures { λ r. ⌜ r ≡ (ltb months monthsInYear && not (leb (lastEnd months) hours && leb hours (monthEnd months))) ⌝ }
+    ensures { λ r. ⌜ r ≡ offMonth hours months ⌝ }
 {
     (months < calendar::MONTHS_IN_YEAR)
         & !((last_end(months) <= hours) & (hours <= calendar::month_end(months)))
@@ -89,7 +87,7 @@ fn last_end(months: u64) -> u64
 
 // Whether the hours stand at the end of the month that is open.
 pub(crate) fn is_month_due(hours: u64, months: u64) -> bool
-    ensures { λ r. ⌜ r ≡ (ltb months monthsInYear && eqb hours (monthEnd months)) ⌝ }
+    ensures { λ r. ⌜ r ≡ isMonthEnd hours months ⌝ }
 {
     (months < calendar::MONTHS_IN_YEAR) & (hours == calendar::month_end(months))
 }

@@ -1,8 +1,8 @@
 -- How long each text can be, and the texts of lines put together from their pieces.
 -- Assumes nothing.
 use Prim.Native.Nat.{ℕ, zero, suc, _+_, _*_, _^_, _≤_, _<_}
-use mathlib.Core.Path.{_≡_, refl, sym, ap, _∙_}
-use mathlib.Core.Bool.{Bool, true, false, false≢true}
+use mathlib.Core.Path.{_≡_, refl, sym, ap}
+use mathlib.Core.Bool.{true, false, false≢true}
 use mathlib.Core.List.{List, [], _∷_, _++_}
 use native.Mathlib.Nat.{not-suc-le-zero, le-refl}
 use native.Mathlib.Numerals.{add-one}
@@ -15,7 +15,7 @@ use mir.Val.{SFits, toZ, ofZ}
 use borrow.Author.Tests.{ltb-true}
 use Rattle.numbers.proofs.Signed.{fits-abs}
 use Rattle.statement_text.proofs.Unsigned.{size-same}
-use Rattle.statement_text.specs.Buffer.{written, Wrote}
+use Rattle.statement_text.specs.Buffer.{Wrote}
 use Rattle.statement_text.specs.Text.{minus, newline, digits, signedDigits, field, signedField, lineText, ownerText, ownersText, eventText, fundText, refusalText, fieldRoom, lineRoom, eventRoom}
 use Rattle.statement_text.proofs.Decimal.{digits-room, digits-half-room}
 use Rattle.statement_text.proofs.Pieces.{wrote-length, wrote-then, wrote-as, three, four, five}

@@ -7,7 +7,7 @@ use native.Mathlib.Nat.{add-zero, add-assoc}
 use native.Mathlib.Numerals.{add-one}
 use native.Mathlib.Omega.{arith}
 use lib.ListN.{length, take, drop, set, length-append, length-take, length-drop, take-append-drop}
-use lib.Seq.{take-at, drop-at, drop-drop, set-split, length-take-le}
+use lib.Seq.{take-at, drop-at, drop-drop, set-split}
 use Rattle.statement_text.specs.Buffer.{written, Wrote}
 
 -- a buffer keeps its length

@@ -1,13 +1,12 @@
 -- What a call answers with and without the room that it asks for, and the room of 64 lines.
 -- Assumes nothing.
 use Prim.Native.Nat.{ℕ, _+_, _≤_, _<_}
-use mathlib.Core.Path.{_≡_, refl, sym, ap, _∙_}
+use mathlib.Core.Path.{_≡_, sym, ap, _∙_}
 use mathlib.Core.Bool.{Bool, cond}
 use mathlib.Core.List.{List}
 use lib.ListN.{length}
 use borrow.Author.Tests.{le-leb, lt-leb}
 use Rattle.statement_text.specs.Buffer.{written, Wrote, textAfter, endAfter}
-use Rattle.statement_text.specs.Text.{eventRoom}
 
 module _ (room : ℕ) (text before : List ℕ) (at : ℕ) where
   pub with-room : (after : List ℕ) (end : ℕ) → at + room ≤ length before → Wrote text before at after end

@@ -10,8 +10,8 @@ use lib.ListN.{length, getD}
 use lib.IntN.{ℤ, pos}
 use borrow.Author.Tests.{eqb-true, not-false}
 use Rattle.numbers.specs.Lists.{listBelow}
-use Rattle.numbers.specs.Refusals.{Row, _if_, firstRefusal}
-use Rattle.numbers.proofs.Refusals.{refusal-none, refusal-clear, refusal-below, refusal-append, answer-accepted, answer-refused}
+use Rattle.numbers.specs.Refusals.{_if_, firstRefusal}
+use Rattle.numbers.proofs.Refusals.{refusal-none, refusal-clear, refusal-below, refusal-append}
 use Rattle.numbers.proofs.Counts.{getD-listBelow, listBelow-ext}
 use Rattle.numbers.proofs.Tests.{neither-true}
 use Rattle.calendar.specs.Year.{hoursInYear, operatingHour}
@@ -19,7 +19,7 @@ use Rattle.rights.specs.Layout.{isWrongLength}
 use Rattle.rights.specs.Faults.{anyFault, fileRefusal}
 use Rattle.rights.proofs.Faults.{file-0, file-7, file-8}
 use Rattle.target.specs.Rounding.{roundTenths}
-use Rattle.target.specs.Target.{owners, isWrongPriceCount, anyWild, earlyRows, targetRefusal, tenths, target, targets, targetLines}
+use Rattle.target.specs.Target.{owners, isWrongPriceCount, anyWild, earlyRows, targetRefusal, tenths, target, targets}
 use Rattle.target.specs.Pass.{Added}
 
 module _ (file : List ℕ) (prices : List ℤ) (hour lines : ℕ) where

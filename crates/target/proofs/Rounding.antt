@@ -1,10 +1,10 @@
 -- The quotient by ten plus the remainder's fifths is the nearest cent, and no step leaves 64 bits.
 -- Assumes nothing.
-use Prim.Native.Nat.{ℕ, zero, suc, _+_, _/_, _%_, _^_, _≤_, _<_}
+use Prim.Native.Nat.{ℕ, zero, suc, _+_, _/_, _%_}
 use mathlib.Core.Path.{_≡_, refl, sym, ap, _∙_}
 use native.Mathlib.Nat.{zero-div}
 use native.Mathlib.Omega.{arith}
-use lib.IntN.{ℤ, pos, negsuc, negℤ, natAbs, _+ℤ_, negℤ-+ℤ}
+use lib.IntN.{ℤ, pos, negsuc, negℤ, _+ℤ_, negℤ-+ℤ}
 use lib.Signed.{quotZ, remZ}
 use mir.Syntax.{w64}
 use mir.Val.{SFits}

@@ -1,15 +1,14 @@
 -- How large a right's worth and an owner's sum can be, with good rights and no wild price.
 -- Assumes nothing.
-use Prim.Native.Nat.{ℕ, suc, _≤_, zero-le}
-use mathlib.Core.Path.{_≡_, refl, sym, ap, subst, _∙_}
+use Prim.Native.Nat.{ℕ, _≤_, zero-le}
+use mathlib.Core.Path.{_≡_, refl}
 use mathlib.Core.Bool.{Bool, true, false, cond}
 use mathlib.Core.List.{List}
 use native.Mathlib.Nat.{le-refl, le-trans, le-of-eq, mul-le-mul}
 use native.Mathlib.Omega.{arith}
 use lib.Dec.{leb, ltb, eqb}
-use lib.ListN.{length, getD, List·getD-eq-default}
-use lib.IntN.{ℤ, pos, negsuc, natAbs, _-ℤ_, _*ℤ_}
-use lib.Signed.{ltZ}
+use lib.ListN.{length, List·getD-eq-default}
+use lib.IntN.{ℤ, pos, negsuc, natAbs, _*ℤ_}
 use borrow.Author.Tests.{ltb-false, leb-true, leb-false}
 use Rattle.numbers.proofs.Any.{any-miss}
 use Rattle.numbers.proofs.Signed.{abs-sub, abs-mul}

@@ -1,6 +1,6 @@
 -- Tenths of a cent to whole cents.
 -- Assumes nothing.
-use Prim.Native.Nat.{ℕ, suc, _+_, _/_}
+use Prim.Native.Nat.{suc, _+_, _/_}
 use lib.IntN.{ℤ, pos, negsuc, negℤ}
 
 -- "S / 10 rounded to a whole cent, halves away from zero"; negsuc n is -(n + 1)

@@ -6,9 +6,9 @@ use mathlib.Core.Bool.{Bool, true, false, cond, _||_}
 use mathlib.Core.List.{[], _∷_}
 use Rattle.numbers.specs.Refusals.{firstRefusal, _if_}
 use borrow.Author.Tests.{eq-eqb, ne-eqb}
-use Rattle.calendar.specs.Year.{monthsInYear, monthEnd}
+use Rattle.calendar.specs.Year.{monthsInYear, monthEnd, isMonthEnd}
 use Rattle.turns.specs.declared.Due.{Due}
-use Rattle.turns.specs.Turn.{isMonthEnd, isYearEnd, dueAt, hourNumber, hourTurn}
+use Rattle.turns.specs.Turn.{isYearEnd, dueAt, hourNumber, hourTurn}
 
 -- the definition's cases, by its three tests
 abbrev byTests : Bool → Bool → Bool → Due

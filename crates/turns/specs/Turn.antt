@@ -1,16 +1,12 @@
 -- Which event is due on a book that stands at so many hours and months.
 -- Assumes nothing.
 use Prim.Native.Nat.{ℕ}
-use mathlib.Core.Bool.{Bool, cond, _&&_, _||_}
+use mathlib.Core.Bool.{Bool, cond, _||_}
 use mathlib.Core.List.{[], _∷_}
-use lib.Dec.{ltb, eqb}
+use lib.Dec.{eqb}
 use Rattle.numbers.specs.Refusals.{firstRefusal, _if_}
-use Rattle.calendar.specs.Year.{monthsInYear, monthEnd}
+use Rattle.calendar.specs.Year.{monthsInYear, isMonthEnd}
 use Rattle.turns.specs.declared.Due.{Due}
-
--- "month end unless the hours stand at the next month's end": it is due while a month is open and the hours stand there
-abbrev pub isMonthEnd : ℕ → ℕ → Bool
-isMonthEnd hours months = ltb months monthsInYear && eqb hours (monthEnd months)
 
 -- "year end before 12 months" is out of turn: it is due once 12 are closed
 abbrev pub isYearEnd : ℕ → Bool

@@ -2,7 +2,6 @@
 -- Assumes nothing.
 use mathlib.Core.Path.{_∙_}
 use Rattle.statement_text.proofs.Unsigned.{same-sign, up-fits, turned-fits, reads-back, size-is, size-fits, size-same, positive-fits}
-use borrow.Author.Needs.{needs}
 use Rattle.statement_text.proofs.size.Statement.{statement}
 use Rattle.statement_text.proofs.size.Tie as tie
 

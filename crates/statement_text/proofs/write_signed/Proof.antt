@@ -1,13 +1,11 @@
 -- `statement_text::write_signed` meets its contract: a minus sign before the size of a negative number.
 -- Assumes nothing.
 use native.Mathlib.Omega.{arith}
-use mir.Syntax.{w64}
-use mir.ValLaws.{toZ-ofZ}
 use Rattle.statement_text.specs.Text.{digits}
 use Rattle.statement_text.proofs.Unsigned.{same-sign, size-same}
 use Rattle.statement_text.proofs.Lines.{signed-negative, signed-positive, size-length}
 use Rattle.statement_text.proofs.Pieces.{wrote-then, wrote-as}
-use mathlib.Core.Path.{_≡_, sym, ap, _∙_}
+use mathlib.Core.Path.{sym, ap, _∙_}
 use borrow.Author.Needs.{needs}
 use Rattle.statement_text.proofs.write_signed.Statement.{statement}
 use Rattle.statement_text.proofs.write_signed.Tie as tie

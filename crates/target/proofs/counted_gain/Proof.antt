@@ -1,8 +1,7 @@
 -- `target::counted_gain` meets its contract, by kind and sign.
 -- Assumes nothing.
 use mathlib.Core.Path.{_≡_, sym, refl, ap, _∙_}
-use mathlib.Core.Bool.{Bool, true, false, cond}
-use lib.Dec.{eqb}
+use mathlib.Core.Bool.{true, false}
 use lib.IntN.{ℤ, pos, negsuc}
 use lib.Signed.{ltZ}
 use borrow.Author.Tests.{eq-eqb, ne-eqb, ltb-true}
@@ -10,7 +9,7 @@ use native.Mathlib.Nat.{not-suc-le-zero}
 use mir.Syntax.{w64}
 use mir.Val.{SFits, toZ, ofZ}
 use mir.ValLaws.{toZ-ofZ}
-use Rattle.target.specs.Target.{counted, notNegative}
+use Rattle.target.specs.Target.{notNegative}
 use Rattle.target.proofs.counted_gain.Statement.{statement}
 use Rattle.target.proofs.counted_gain.Tie as tie
 

@@ -1,6 +1,6 @@
 -- `target::early_refusal` meets its contract: each return is a row of the table.
 -- Assumes nothing.
-use mathlib.Core.Path.{_≡_, sym, ap, ap₂, _∙_}
+use mathlib.Core.Path.{_≡_, sym, ap₂, _∙_}
 use mathlib.Core.Bool.{Bool, not, _||_}
 use borrow.Author.Tests.{le-leb, lt-leb}
 use lib.Dec.{eqb}

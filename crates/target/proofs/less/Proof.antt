@@ -1,7 +1,7 @@
 -- `target::less` meets its contract: a difference of two 32-bit numbers fits 64 bits.
 -- Assumes nothing.
 use native.Mathlib.Omega.{arith}
-use lib.IntN.{ℤ, natAbs, _-ℤ_}
+use lib.IntN.{ℤ, _-ℤ_}
 use mir.Syntax.{w32, w64}
 use mir.Val.{SFits}
 use mir.ValLaws.{toZ-ofZ}

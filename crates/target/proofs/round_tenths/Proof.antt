@@ -1,6 +1,5 @@
 -- `target::round_tenths` meets its contract: a signed local holds bits, which read back as the number that fits.
 -- Assumes nothing.
-use mathlib.Core.Path.{_≡_}
 use native.Mathlib.Omega.{arith}
 use mir.Syntax.{w64}
 use mir.ValLaws.{toZ-ofZ}

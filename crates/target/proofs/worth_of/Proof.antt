@@ -1,8 +1,8 @@
 -- `target::worth_of` meets its contract: a live right is worth size times spread, and the product fits.
 -- Assumes nothing.
-use mathlib.Core.Path.{_≡_, sym, ap, ap₂, subst, _∙_}
+use mathlib.Core.Path.{_≡_, sym, ap, ap₂, _∙_}
 use mathlib.Core.List.{List}
-use lib.IntN.{ℤ, pos, natAbs, _-ℤ_, _*ℤ_}
+use lib.IntN.{ℤ, pos, _-ℤ_, _*ℤ_}
 use mir.Syntax.{w32, w64}
 use mir.Val.{toZ, ofZ}
 use mir.ValLaws.{toZ-ofZ}

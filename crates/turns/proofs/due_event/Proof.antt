@@ -5,8 +5,7 @@ use mathlib.Core.Bool.{Bool, true, false, _&&_}
 use Prim.Native.Nat.{ℕ}
 use lib.Dec.{ltb, eqb}
 use borrow.Author.Needs.{needs}
-use Rattle.calendar.specs.Year.{monthsInYear, monthEnd}
-use Rattle.turns.specs.Turn.{isMonthEnd}
+use Rattle.calendar.specs.Year.{monthsInYear, monthEnd, isMonthEnd}
 use Rattle.turns.proofs.Tests.{both, over, month-end, year-end, next-hour}
 use Rattle.turns.proofs.due_event.Statement.{statement}
 use Rattle.turns.proofs.due_event.Tie as tie

@@ -3,7 +3,7 @@
 use borrow.Author.Needs.{needs}
 use mathlib.Core.Path.{sym, _∙_}
 use borrow.Author.Tests.{lt-ltb, le-ltb}
-use Rattle.settlement.specs.Parts.{outOfStep}
+use Rattle.settlement.specs.Book.{outOfStep}
 use Rattle.settlement.proofs.turn.is_out_of_step.Statement.{statement}
 use Rattle.settlement.proofs.turn.is_out_of_step.Tie as tie
 

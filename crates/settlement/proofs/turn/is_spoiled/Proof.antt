@@ -5,8 +5,7 @@ use borrow.Author.Needs.{needs}
 use Prim.Native.Nat.{_≤_}
 use mathlib.Core.Path.{_≡_, sym, _∙_}
 use mathlib.Core.Bool.{false}
-use Rattle.settlement.specs.Book.{mostCents, allShortfalls}
-use Rattle.settlement.specs.Parts.{outOfStep}
+use Rattle.settlement.specs.Book.{mostCents, allShortfalls, outOfStep}
 use Rattle.settlement.proofs.Spoiled.{hours-within, spoiled-by-steps, spoiled-by-cells, spoiled-by-surplus}
 use Rattle.settlement.proofs.turn.is_spoiled.Statement.{statement}
 use Rattle.settlement.proofs.turn.is_spoiled.Tie as tie
