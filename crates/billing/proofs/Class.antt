@@ -7,7 +7,7 @@ use native.Mathlib.Omega.{arith}
 use mir.Val.{boolByte}
 use Rattle.calendar.specs.declared.OperatingHour.{OperatingHour}
 use Rattle.calendar.specs.Year.{hoursInYear, isPeak, operatingHour}
-use Rattle.calendar.proofs.Hours.{accepted-inside, refused-outside, refusal-inside, refusal-outside, hour-inside, settledHour, month-most}
+use Rattle.calendar.proofs.Hours.{accepted-inside, refused-outside, refusal-inside, refusal-outside, hour-inside, hourOfYear, month-most}
 use Rattle.billing.specs.Host.{billingClass}
 
 peak-byte : (peak : Bool) → boolByte peak ≡ cond peak 1 0
@@ -23,7 +23,7 @@ module _ (hour : ℕ) (found : OperatingHour) (answer : found ≡ operatingHour 
   inside : found .refusal ≡ 0 → hour < hoursInYear
   inside accepted = accepted-inside hour (sym (ap (λ (h : OperatingHour). h .refusal) answer) ∙ accepted)
 
-  given : found .refusal ≡ 0 → found ≡ settledHour hour
+  given : found .refusal ≡ 0 → found ≡ hourOfYear hour
   given accepted = answer ∙ hour-inside hour (inside accepted)
 
   pub class-given : found .refusal ≡ 0 → 2 * found .month + boolByte (found .peak) ≡ billingClass hour

@@ -3,37 +3,41 @@
 use Prim.Native.Nat.{ℕ, _+_, _*_, _/_, _%_, _<_, _≤_}
 use mathlib.Core.Path.{_≡_, refl, sym, ap, ap₂, _∙_}
 use mathlib.Core.Bool.{Bool, true, false, cond, not, _&&_}
-use mathlib.Core.List.{List, [], _∷_, map}
+use mathlib.Core.List.{List, [], _∷_}
 use native.Mathlib.Nat.{le-refl}
 use native.Mathlib.Omega.{arith}
 use lib.Dec.{leb, eqb}
 use lib.ListN.{length}
-use borrow.Author.Tests.{leb-true, leb-false, le-leb, lt-leb, eq-eqb, ne-eqb}
+use borrow.Author.Tests.{leb-true, leb-false, le-leb, lt-leb, eqb-true, eq-eqb, ne-eqb}
 use Rattle.numbers.specs.Lists.{countBelow}
 use Rattle.numbers.specs.Refusals.{firstRefusal}
+use Rattle.numbers.proofs.Booleans.{both-true}
 use Rattle.calendar.specs.declared.OperatingHour.{OperatingHour}
 use Rattle.calendar.specs.Year.{hoursInYear, hoursInDay, monthsInYear, monthEnds, dayOf, endedBy, monthOf, isWorking, isPeak, dayEntry, calendarRefusal, operatingHour}
 
 -- ---- the month of an hour is that of its day, since months end with a day
 
-inDays : List ℕ → List ℕ
-inDays days = map (λ day. day * hoursInDay) days
+-- every month ends with a day
+wholeDays : List ℕ → Bool
+wholeDays [] = true
+wholeDays (end ∷ ends) = eqb (end % 24) 0 && wholeDays ends
 
-end-with-day : (day hour : ℕ) (test : Bool) → leb (day * 24) hour ≡ test → leb (day * 24) (hour / 24 * 24) ≡ test
-end-with-day day hour true e = le-leb (day * 24) (hour / 24 * 24) (omega (arith, leb-true (day * 24) hour e))
-end-with-day day hour false e = lt-leb (day * 24) (hour / 24 * 24) (omega (arith, leb-false (day * 24) hour e))
+end-with-day : (end hour : ℕ) (test : Bool) → end % 24 ≡ 0 → leb end hour ≡ test → leb end (hour / 24 * 24) ≡ test
+end-with-day end hour true whole e = le-leb end (hour / 24 * 24) (omega (arith, leb-true end hour e))
+end-with-day end hour false whole e = lt-leb end (hour / 24 * 24) (omega (arith, leb-false end hour e))
 
-ended-with-day : (days : List ℕ) (hour : ℕ) → endedBy (inDays days) (hour / 24 * 24) ≡ endedBy (inDays days) hour
-unfolding inDays endedBy
-ended-with-day [] hour = refl
-ended-with-day (day ∷ days) hour =
-    ap₂ (λ (test : Bool) (rest : ℕ). cond test 1 0 + rest) (end-with-day day hour (leb (day * 24) hour) refl)
-    (ended-with-day days hour)
+ended-with-day : (ends : List ℕ) (hour : ℕ) → wholeDays ends ≡ true → endedBy ends (hour / 24 * 24) ≡ endedBy ends hour
+unfolding wholeDays endedBy
+ended-with-day [] hour whole = refl
+ended-with-day (end ∷ ends) hour whole =
+    let both = both-true (eqb (end % 24) 0) (wholeDays ends) whole in
+    ap₂ (λ (test : Bool) (rest : ℕ). cond test 1 0 + rest)
+    (end-with-day end hour (leb end hour) (eqb-true (end % 24) 0 (both .0)) refl)
+    (ended-with-day ends hour (both .1))
 
 pub month-of-day : (hour : ℕ) → monthOf (hour / hoursInDay * hoursInDay) ≡ monthOf hour
-unfolding inDays monthOf
-month-of-day hour =
-    ended-with-day (30 ∷ 61 ∷ 92 ∷ 122 ∷ 153 ∷ 183 ∷ 214 ∷ 245 ∷ 273 ∷ 304 ∷ 334 ∷ 365 ∷ []) hour
+unfolding wholeDays monthOf
+month-of-day hour = ended-with-day monthEnds hour refl
 
 -- ---- what stands in a day's entry
 
@@ -48,8 +52,8 @@ entry-working month false = ne-eqb ((2 * month + 0) % 2) 1 (λ e. omega arith)
 -- ---- the answer, by whether the year has the hour
 
 -- the answer for an hour of the year
-abbrev pub settledHour : ℕ → OperatingHour
-settledHour hour = record { refusal = 0; day = dayOf hour; month = monthOf hour; peak = isPeak hour }
+abbrev pub hourOfYear : ℕ → OperatingHour
+hourOfYear hour = record { refusal = 0; day = dayOf hour; month = monthOf hour; peak = isPeak hour }
 
 pub refusal-inside : (hour : ℕ) → hour < hoursInYear → calendarRefusal hour ≡ 0
 unfolding calendarRefusal firstRefusal
@@ -59,7 +63,7 @@ pub refusal-outside : (hour : ℕ) → hoursInYear ≤ hour → calendarRefusal 
 unfolding calendarRefusal firstRefusal
 refusal-outside hour outside = rw (le-leb hoursInYear hour outside)
 
-pub hour-inside : (hour : ℕ) → hour < hoursInYear → operatingHour hour ≡ settledHour hour
+pub hour-inside : (hour : ℕ) → hour < hoursInYear → operatingHour hour ≡ hourOfYear hour
 unfolding operatingHour
 hour-inside hour inside = rw (refusal-inside hour inside)
 

@@ -1,6 +1,6 @@
 // The operating year: which day, month and class an hour has.
 ghost use mathlib.Core.Path.{_≡_};
-ghost use Rattle.calendar.specs.Year.{dayEntry, daysInYear, monthEnd, operatingHour};
+ghost use Rattle.calendar.specs.Year.{dayEntry, daysInYear, isMonthEnd, monthEnd, operatingHour};
 ghost use Prim.Native.Nat.{_<_};
 ghost use mathlib.Core.Bool.{_&&_};
 ghost use lib.Dec.{eqb, leb};
@@ -82,4 +82,11 @@ pub fn month_end(month: u64) -> u64
         return 0;
     }
     MONTH_ENDS[month as usize]
+}
+
+// Whether, with so many months closed, one is open and these hours stand at its end.
+pub fn is_month_end(hours: u64, months: u64) -> bool
+    ensures { λ r. ⌜ r ≡ isMonthEnd hours months ⌝ }
+{
+    (months < MONTHS_IN_YEAR) & (hours == month_end(months))
 }

@@ -2,8 +2,8 @@
 use libc::STDIN_FILENO;
 use libc::STDOUT_FILENO;
 use settlement::Book;
+use settlement::Event;
 use settlement::Settled;
-use turns::Due;
 
 // Where the settlement stands: whether it goes on, the refusal that stopped it or 0, the book, and the end of the text that is not
 // written out yet.
@@ -78,12 +78,12 @@ fn settle_block(rights: &[u8], standing: Standing, text: &mut [u8]) -> Standing 
 
 // The next hour, from its bytes.
 fn settle_hour(rights: &[u8], block: &[u8], standing: Standing, text: &mut [u8]) -> Standing {
-    let mut prices = [0i32; target::NODES];
+    let mut prices = [0i32; numbers::NODES];
     let decoded = hour_block::decode(block, &mut prices);
     if decoded.refusal != 0 {
         return stopped(standing, decoded.refusal);
     }
-    let mut lines = [0i64; target::OWNERS];
+    let mut lines = [0i64; numbers::OWNERS];
     let book = standing.book;
     let settled = book.hour(rights, &prices, decoded.amount, &mut lines);
     print_event(b'H', book.hours, settled, &lines, standing, text)
@@ -92,9 +92,8 @@ fn settle_hour(rights: &[u8], block: &[u8], standing: Standing, text: &mut [u8])
 // The month end, if it is due.
 fn close_month(standing: Standing, text: &mut [u8]) -> Standing {
     let book = standing.book;
-    let due = turns::due_event(book.hours, book.months, book.ended);
-    if let Due::MonthEnd = due {
-        let mut lines = [0i64; target::OWNERS];
+    if book.is_due(Event::MonthEnd) {
+        let mut lines = [0i64; numbers::OWNERS];
         let settled = book.month_end(&mut lines);
         return print_event(b'M', book.months, settled, &lines, standing, text);
     }
@@ -104,9 +103,8 @@ fn close_month(standing: Standing, text: &mut [u8]) -> Standing {
 // The year end, if it is due.
 fn close_year(standing: Standing, text: &mut [u8]) -> Standing {
     let book = standing.book;
-    let due = turns::due_event(book.hours, book.months, book.ended);
-    if let Due::YearEnd = due {
-        let mut lines = [0i64; target::OWNERS];
+    if book.is_due(Event::YearEnd) {
+        let mut lines = [0i64; numbers::OWNERS];
         let settled = book.year_end(&mut lines);
         return print_event(b'Y', 0, settled, &lines, standing, text);
     }

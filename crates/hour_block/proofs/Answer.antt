@@ -9,10 +9,11 @@ use lib.Dec.{eqb}
 use lib.ListN.{length}
 use lib.IntN.{ℤ, pos}
 use borrow.Author.Tests.{eqb-true, not-false}
-use Rattle.numbers.proofs.Tests.{neither-true}
+use Rattle.numbers.specs.Limits.{nodes}
+use Rattle.numbers.proofs.Booleans.{neither-true}
 use Rattle.numbers.proofs.Refusals.{refusal-here, refusal-next, refusal-none, answer-accepted, answer-refused}
 use Rattle.hour_block.specs.declared.Decoded.{Decoded}
-use Rattle.hour_block.specs.Block.{nodes, hourBytes, amountIn, pricesIn, decodeRefusal, decoded, pricesAfter}
+use Rattle.hour_block.specs.Block.{hourBytes, amountIn, pricesIn, decodeRefusal, decoded, pricesAfter}
 
 -- the code's one test of both lengths
 abbrev isWrong : ℕ → ℕ → Bool

@@ -6,6 +6,7 @@ use mathlib.Core.List.{List, [], _∷_}
 use lib.Dec.{ltb, eqb}
 use lib.ListN.{length, getD}
 use lib.IntN.{ℤ, pos, negsuc}
+use Rattle.numbers.specs.Limits.{nodes}
 use Rattle.numbers.specs.Lists.{listBelow}
 use Rattle.numbers.specs.Refusals.{firstRefusal, _if_, answerBy}
 use Rattle.hour_block.specs.declared.Decoded.{Decoded}
@@ -16,9 +17,6 @@ amountBytes = 8
 
 abbrev pub priceBytes : ℕ
 priceBytes = 4
-
-abbrev pub nodes : ℕ
-nodes = 1024
 
 abbrev pub hourBytes : ℕ
 hourBytes = amountBytes + nodes * priceBytes

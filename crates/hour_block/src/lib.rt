@@ -2,7 +2,8 @@
 ghost use mathlib.Core.Path.{_≡_};
 ghost use Prim.Native.Nat.{_+_, _<_, _≤_};
 ghost use lib.ListN.{length};
-ghost use Rattle.hour_block.specs.Block.{amountIn, decoded, hourBytes, nodes, pricesAfter, pricesIn, signed, word};
+ghost use Rattle.numbers.specs.Limits.{nodes};
+ghost use Rattle.hour_block.specs.Block.{amountIn, decoded, hourBytes, pricesAfter, pricesIn, signed, word};
 
 // The bytes of one hour: the amount, and a price for each node.
 pub const HOUR_BYTES: usize = 4104;
@@ -18,7 +19,7 @@ pub fn decode(block: &[u8], prices: &mut [i32]) -> Decoded
     ensures { λ r. ⌜ r ≡ decoded (now (block .entry)) (length (now (prices .entry))) ⌝ }
     ensures { λ _. ⌜ now (prices .exit) ≡ pricesAfter (now (block .entry)) (now (prices .entry)) ⌝ }
 {
-    if (block.len() != HOUR_BYTES) | (prices.len() != target::NODES) {
+    if (block.len() != HOUR_BYTES) | (prices.len() != numbers::NODES) {
         return Decoded {
             refusal: 4,
             amount: 0,
@@ -37,7 +38,7 @@ fn write_prices(block: &[u8], prices: &mut [i32])
     ensures { λ _. ⌜ now (prices .exit) ≡ pricesIn (now (block .entry)) ⌝ }
 {
     let mut node = 0;
-    while node < target::NODES {
+    while node < numbers::NODES {
         prices[node] = signed32(word32(block, 8 + node * 4));
         node += 1;
     }

@@ -1,8 +1,7 @@
-// Drawn files through a reader: each line has the counts of refusals and the digest of a batch's answers.
+// Drawn files, read step by step: each line has the counts of refusals and the digest of a batch's answers.
 ghost use lib.ListN.{length};
 ghost use mathlib.Core.Path.{_≡_};
 use rights::Given;
-use rights::Taken;
 
 const SEED: u64 = 7046029254386353131;
 
@@ -11,15 +10,6 @@ const BATCHES: u64 = 128;
 const FILES: u64 = 8;
 
 const STEPS: u64 = 9;
-
-// One step, by a reader where it is an even one, else by the function on the slice and the number.
-fn step(file: &[u8], next: u64, number: u64) -> Taken {
-    if number % 2 == 0 {
-        rights::take_from(file, next)
-    } else {
-        rights::take_at(file, next)
-    }
-}
 
 fn fold_refusal(refusal: u8, digest: &mut u64, counts: &mut [u64]) {
     draws::fold(digest, refusal as u64);
@@ -39,20 +29,20 @@ fn fold_given(given: Given, digest: &mut u64, counts: &mut [u64]) {
     }
 }
 
-// Asks a new reader nine times.
+// Nine steps from the first record on, by the function on the slice and the number, which a reader's step calls.
 fn run_reader(file: &[u8], digest: &mut u64, counts: &mut [u64]) {
     let mut next: u64 = 0;
     let mut number: u64 = 0;
     while number < STEPS {
-        let taken = step(file, next, number);
-        let given = taken.given;
+        let step = rights::take_at(file, next);
+        let given = step.given;
         fold_given(given, digest, counts);
-        next = taken.next;
+        next = step.next;
         number += 1;
     }
 }
 
-// Draws a file and runs a reader over it. The record number of the last read case is drawn too, and not used.
+// Draws a file and steps through it. The record number of the last read case is drawn too, and not used.
 fn run_file(state: &mut u64, file: &mut [u8], digest: &mut u64, counts: &mut [u64])
     requires { ⌜ length (now file) ≡ 65552 ⌝ }
 {

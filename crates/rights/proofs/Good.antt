@@ -4,10 +4,11 @@ use Prim.Native.Nat.{ℕ, _≤_, _<_}
 use mathlib.Core.Path.{_≡_}
 use mathlib.Core.Bool.{true, false, _&&_}
 use lib.Dec.{leb}
-use borrow.Author.Tests.{leb-true, leb-false}
-use Rattle.numbers.proofs.Tests.{both-true, neither-true}
+use borrow.Author.Tests.{leb-true, leb-false, ltb-true}
+use Rattle.numbers.specs.Limits.{owners}
+use Rattle.numbers.proofs.Booleans.{both-true, neither-true}
 use Rattle.rights.specs.declared.Right.{Right}
-use Rattle.rights.specs.Layout.{goodOwner, goodNodes, goodKind, goodSize, goodDays, isGood}
+use Rattle.rights.specs.Layout.{mostSize, goodOwner, goodNodes, goodKind, goodSize, goodDays, isGood}
 use Rattle.rights.specs.Faults.{isUnpriced}
 
 module _ (right : Right) (good : isGood right ≡ true) where
@@ -20,13 +21,13 @@ module _ (right : Right) (good : isGood right ≡ true) where
   to-nodes : (goodOwner right && goodNodes right) ≡ true
   to-nodes = both-true (goodOwner right && goodNodes right) (goodKind right) to-kind .0
 
-  pub good-owner : right .owner ≤ 63
-  good-owner = leb-true _ _ (both-true (goodOwner right) (goodNodes right) to-nodes .0)
+  pub good-owner : right .owner < owners
+  good-owner = ltb-true _ _ (both-true (goodOwner right) (goodNodes right) to-nodes .0)
 
-  pub good-size : right .size ≤ 100_000
+  pub good-size : right .size ≤ mostSize
   good-size =
       leb-true _ _
-      (both-true (leb 1 (right .size)) (leb (right .size) 100_000)
+      (both-true (leb 1 (right .size)) (leb (right .size) mostSize)
       (both-true (goodOwner right && goodNodes right && goodKind right) (goodSize right) to-size .1) .1)
 
 -- a right that is not unpriced has both its nodes among the prices

@@ -1,5 +1,5 @@
 pub mod Faults
-pub mod Given
 pub mod Good
+pub mod Readings
 pub mod Steps
 pub mod WholeReading

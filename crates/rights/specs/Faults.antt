@@ -1,12 +1,12 @@
 -- The faults of a whole rights file, for a number of prices.
 -- Assumes nothing.
 use Prim.Native.Nat.{ℕ}
-use mathlib.Core.Bool.{Bool, cond, not, _&&_, _||_}
+use mathlib.Core.Bool.{Bool, false, cond, not, _&&_, _||_}
 use mathlib.Core.List.{List, [], _∷_}
 use lib.Dec.{leb, ltb, eqb}
 use lib.ListN.{length}
 use Rattle.numbers.specs.Lists.{anyBelow}
-use Rattle.numbers.specs.Refusals.{firstRefusal, _if_}
+use Rattle.numbers.specs.Refusals.{Row, firstRefusal, _if_}
 use Rattle.rights.specs.declared.Right.{Right}
 use Rattle.rights.specs.Layout.{recordCount, rightAt, isGood, isWrongLength}
 
@@ -14,9 +14,11 @@ use Rattle.rights.specs.Layout.{recordCount, rightAt, isGood, isWrongLen
 abbrev pub isUnpriced : ℕ → Right → Bool
 isUnpriced prices right = leb prices (right .source) || leb prices (right .sink)
 
--- the fault of a right that a refusal number stands for: 7, "a field outside its values"; 8, an unpriced node
+-- the fault of a right that a refusal number stands for: 7, "a field outside its values"; 8, an unpriced node; no other number
+-- stands for one
 abbrev pub hasFault : ℕ → ℕ → Right → Bool
-hasFault prices refusal right = cond (eqb refusal 7) (not (isGood right)) (isUnpriced prices right)
+hasFault prices refusal right =
+    cond (eqb refusal 7) (not (isGood right)) (cond (eqb refusal 8) (isUnpriced prices right) false)
 
 -- the record of a number has that fault
 unfoldable pub faultAt : ℕ → List ℕ → ℕ → ℕ → Bool
@@ -26,11 +28,13 @@ faultAt prices file refusal number = hasFault prices refusal (rightAt file numbe
 unfoldable pub anyFault : ℕ → List ℕ → ℕ → Bool
 anyFault prices file refusal = anyBelow (faultAt prices file refusal) (recordCount file)
 
+-- the rows 7 and 8 of every call that is lent a file and prices
+unfoldable pub faultRows : ℕ → List ℕ → List Row
+faultRows prices file = (7 if anyFault prices file 7) ∷ (8 if anyFault prices file 8) ∷ []
+
 -- the refusals of a file, for a number of prices
 unfoldable pub fileRefusal : ℕ → List ℕ → ℕ
-fileRefusal prices file =
-    firstRefusal
-    ((4 if isWrongLength (length file)) ∷ (7 if anyFault prices file 7) ∷ (8 if anyFault prices file 8) ∷ [])
+fileRefusal prices file = firstRefusal ((4 if isWrongLength (length file)) ∷ faultRows prices file)
 
 -- "In 7 and 8 the record number is that of some record with the fault; which one is free"; else it is 0
 unfoldable pub namesFault : ℕ → List ℕ → ℕ → ℕ → Bool

@@ -5,6 +5,7 @@ use mathlib.Core.Bool.{Bool, not, _&&_, _||_}
 use mathlib.Core.List.{List, [], _∷_}
 use lib.Dec.{leb, ltb, eqb}
 use lib.ListN.{length, getD}
+use Rattle.numbers.specs.Limits.{owners, nodes}
 use Rattle.numbers.specs.Refusals.{firstRefusal, _if_, answerBy}
 use Rattle.calendar.specs.Year.{daysInYear}
 use Rattle.calendar.specs.declared.OperatingHour.{OperatingHour}
@@ -49,19 +50,22 @@ rightAt file number = rightFrom file (number * recordBytes)
 
 -- the values that each field may have: "owner, 16 bits, 0 to 63"
 abbrev pub goodOwner : Right → Bool
-goodOwner right = leb (right .owner) 63
+goodOwner right = ltb (right .owner) owners
 
 -- "source node, 16 bits, 0 to 1,023"; "sink node, 16 bits, 0 to 1,023, not the source"
 abbrev pub goodNodes : Right → Bool
-goodNodes right = leb (right .source) 1023 && leb (right .sink) 1023 && not (eqb (right .sink) (right .source))
+goodNodes right = ltb (right .source) nodes && ltb (right .sink) nodes && not (eqb (right .sink) (right .source))
 
 -- "kind, 8 bits: 0 obligation, 1 option"; "class, 8 bits: 0 peak, 1 off-peak, 2 all hours"
 abbrev pub goodKind : Right → Bool
 goodKind right = leb (right .kind) 1 && leb (right .class) 2
 
 -- "size in tenths of a megawatt, 32 bits, 1 to 100,000"
+abbrev pub mostSize : ℕ
+mostSize = 100_000
+
 abbrev pub goodSize : Right → Bool
-goodSize right = leb 1 (right .size) && leb (right .size) 100_000
+goodSize right = leb 1 (right .size) && leb (right .size) mostSize
 
 -- "1 ≤ first ≤ last ≤ 365"
 abbrev pub goodDays : Right → Bool
@@ -78,8 +82,11 @@ abbrev pub isLive : OperatingHour → Right → Bool
 isLive hour right = leb (right .first) (hour .day) && leb (hour .day) (right .last) && classFits (right .class) (hour .peak)
 
 -- 4: "rights not a multiple of 16 or above 65,536"
+abbrev pub mostBytes : ℕ
+mostBytes = 65_536
+
 abbrev pub isWrongLength : ℕ → Bool
-isWrongLength bytes = not (eqb (bytes % recordBytes) 0) || ltb 65_536 bytes
+isWrongLength bytes = not (eqb (bytes % recordBytes) 0) || ltb mostBytes bytes
 
 -- "A read by record number, from 0, gives the eight fields, or 4 or 7": 4 also for "no such record"
 unfoldable pub readRefusal : List ℕ → ℕ → ℕ

@@ -12,16 +12,18 @@ mod reader;
 
 pub use reader::Given;
 pub use reader::Reader;
-pub use reader::Taken;
-pub use reader::Took;
+pub use reader::ReaderStep;
+pub use reader::Step;
 pub use reader::reader_over;
 pub use reader::take_at;
-pub use reader::take_from;
 pub use reader::take_next;
 
 pub const RECORD_BYTES: usize = 16;
 
 pub const FILE_BYTES: usize = 65536;
+
+// The largest size of a right, in tenths of a megawatt.
+const MOST_SIZE: u32 = 100000;
 
 // One record of the file.
 pub struct Right {
@@ -41,8 +43,8 @@ pub struct Reading {
     pub right: Right,
 }
 
-// A file's refusal and the record that it names.
-pub struct Fault {
+// What a call over a whole file gives: its refusal or 0, and the record that the refusal names or 0.
+pub struct Outcome {
     pub refusal: u8,
     pub faulty: u64,
 }
@@ -95,10 +97,12 @@ pub fn wrong_length(bytes: usize) -> bool
 fn is_good(right: Right) -> bool
     ensures { λ r. ⌜ r ≡ isGood right ⌝ }
 {
-    (right.owner <= 63)
-        & ((right.source <= 1023) & (right.sink <= 1023) & (right.sink != right.source))
+    ((right.owner as usize) < numbers::OWNERS)
+        & (((right.source as usize) < numbers::NODES)
+            & ((right.sink as usize) < numbers::NODES)
+            & (right.sink != right.source))
         & ((right.kind <= 1) & (right.class <= 2))
-        & ((1 <= right.size) & (right.size <= 100000))
+        & ((1 <= right.size) & (right.size <= MOST_SIZE))
         & ((1 <= right.first)
             & (right.first <= right.last)
             & (right.last <= calendar::DAYS_IN_YEAR))
@@ -123,12 +127,12 @@ pub fn is_live(right: Right, hour: OperatingHour) -> bool
 }
 
 // The first refusal that a file calls for, with so many prices, and a record that has the fault.
-pub fn file_fault(file: &[u8], prices: usize) -> Fault
+pub fn file_fault(file: &[u8], prices: usize) -> Outcome
     ensures { λ r. ⌜ (r .refusal ≡ fileRefusal prices (now (file .entry))) × (namesFault prices (now (file .entry)) (r .refusal) (r .faulty) ≡ true) ⌝ }
 {
     let bytes = file.len();
     if wrong_length(bytes) {
-        return Fault {
+        return Outcome {
             refusal: 4,
             faulty: 0,
         };
@@ -136,19 +140,19 @@ pub fn file_fault(file: &[u8], prices: usize) -> Fault
     let records = bytes / RECORD_BYTES;
     let bad = first_fault(file, prices, 7);
     if bad < records {
-        return Fault {
+        return Outcome {
             refusal: 7,
             faulty: bad as u64,
         };
     }
     let unpriced = first_fault(file, prices, 8);
     if unpriced < records {
-        return Fault {
+        return Outcome {
             refusal: 8,
             faulty: unpriced as u64,
         };
     }
-    Fault {
+    Outcome {
         refusal: 0,
         faulty: 0,
     }
@@ -170,14 +174,17 @@ fn first_fault(file: &[u8], prices: usize, refusal: u8) -> usize
     number
 }
 
-// Whether the right has the fault that a refusal stands for: 7, or else 8.
+// Whether the right has the fault that a refusal stands for: 7 or 8.
 fn has_fault(right: Right, prices: usize, refusal: u8) -> bool
     ensures { λ r. ⌜ r ≡ hasFault prices refusal right ⌝ }
 {
     if refusal == 7 {
         return !is_good(right);
     }
-    is_unpriced(right, prices)
+    if refusal == 8 {
+        return is_unpriced(right, prices);
+    }
+    false
 }
 
 // The eight fields of the record that starts at a place.

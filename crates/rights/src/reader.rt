@@ -1,6 +1,6 @@
 // The reader over the lent rights file: it holds the file and the number of the next record.
 ghost use mathlib.Core.Path.{_≡_};
-ghost use Rattle.rights.specs.Reader.{takenAt};
+ghost use Rattle.rights.specs.Reader.{IsStep};
 use crate::Right;
 
 // What a reader gives.
@@ -12,35 +12,34 @@ pub enum Given {
 }
 
 // What is given, and the number of the next record.
-pub struct Taken {
+pub struct Step {
     pub given: Given,
     pub next: u64,
 }
 
 // What stands at a record number, and where a reader goes from there: any bytes, any number.
-pub fn take_at(file: &[u8], next: u64) -> Taken
-    ensures { λ r. ⌜ r ≡ takenAt (now (file .entry)) next ⌝ }
+// Its callers need no walk by hand.
+pub fn take_at(file: &[u8], next: u64) -> Step
+    ensures { λ r. ⌜ IsStep (now (file .entry)) next (r .given) (r .next) ⌝ }
 {
-    let bytes = file.len();
-    if crate::wrong_length(bytes) {
+    let reading = crate::read(file, next);
+    if reading.refusal == 0 {
+        let right = reading.right;
+        return answer(Given::Record(right), next + 1);
+    }
+    if reading.refusal == 7 {
+        return answer(Given::Bad, next + 1);
+    }
+    if crate::wrong_length(file.len()) {
         return answer(Given::WrongLength, next);
     }
-    let place = next as usize;
-    if bytes / crate::RECORD_BYTES <= place {
-        return answer(Given::Finished, next);
-    }
-    let right = crate::decode(file, place * crate::RECORD_BYTES);
-    if crate::is_good(right) {
-        answer(Given::Record(right), next + 1)
-    } else {
-        answer(Given::Bad, next + 1)
-    }
+    answer(Given::Finished, next)
 }
 
-fn answer(given: Given, next: u64) -> Taken
+fn answer(given: Given, next: u64) -> Step
     ensures { λ r. ⌜ (r .given ≡ given) × (r .next ≡ next) ⌝ }
 {
-    Taken { given, next }
+    Step { given, next }
 }
 
 // The lent rights file, and the number of the next record.
@@ -49,11 +48,10 @@ pub struct Reader<'a> {
     pub next: u64,
 }
 
-// What a reader gives, with the file and the number that the reader then has.
-pub struct Took<'a> {
+// What a reader gives, and the reader to go on with.
+pub struct ReaderStep<'a> {
     pub given: Given,
-    pub file: &'a [u8],
-    pub next: u64,
+    pub reader: Reader<'a>,
 }
 
 // A reader that stands at a file's first record.
@@ -63,25 +61,16 @@ pub fn reader_over<'a>(file: &'a [u8]) -> Reader<'a>
     Reader { file, next: 0 }
 }
 
-// What the reader gives next, and where it then stands.
-pub fn take_next<'a>(r: Reader<'a>) -> Took<'a>
-    ensures { λ t. ⌜ (t .given ≡ takenAt (now (r .entry .file)) (r .entry .next) .given) × (t .file ≡ r .entry .file) × (t .next ≡ takenAt (now (r .entry .file)) (r .entry .next) .next) ⌝ }
+// What the reader gives next, and the reader that stands where it goes from there.
+pub fn take_next<'a>(r: Reader<'a>) -> ReaderStep<'a>
+    ensures { λ t. ⌜ (t .reader .file ≡ r .entry .file) × IsStep (now (r .entry .file)) (r .entry .next) (t .given) (t .reader .next) ⌝ }
 {
-    let taken = take_at(r.file, r.next);
-    Took {
-        given: taken.given,
-        file: r.file,
-        next: taken.next,
-    }
-}
-
-// One step of a reader that stands at a record number of a file. Its callers need no walk by hand.
-pub fn take_from(file: &[u8], next: u64) -> Taken
-    ensures { λ r. ⌜ r ≡ takenAt (now (file .entry)) next ⌝ }
-{
-    let took = take_next(Reader { file, next });
-    Taken {
-        given: took.given,
-        next: took.next,
+    let step = take_at(r.file, r.next);
+    ReaderStep {
+        given: step.given,
+        reader: Reader {
+            file: r.file,
+            next: step.next,
+        },
     }
 }

@@ -1,27 +1,26 @@
--- Demand 3: the claim holds of every ledger; and every list of calls has a ledger.
+-- Demand 3: the claim holds of every ledger.
 -- Assumes nothing.
 use Prim.Native.Nat.{ℕ, _<_}
-use mathlib.Core.Path.{_≡_, refl, sym, subst, _∙_}
-use mathlib.Core.Bool.{true, false, false≢true}
+use mathlib.Core.Path.{_≡_, sym, subst, _∙_}
 use mathlib.Core.List.{List, [], _∷_}
 use native.Mathlib.Decide.{ℕ-discrete}
 use native.Mathlib.Nat.{le-antisymm}
 use native.Mathlib.Omega.{arith}
 use lib.ListN.{length}
 use lib.IntN.{ℤ}
-use Rattle.numbers.proofs.Refusals.{answer-refused, refusal-is, refusal-never}
+use Rattle.numbers.specs.Limits.{owners}
+use Rattle.numbers.proofs.Refusals.{answer-refused}
 use Rattle.calendar.specs.Year.{monthsInYear}
-use Rattle.target.specs.Target.{owners}
 use Rattle.settlement.specs.declared.Book.{Book}
 use Rattle.settlement.specs.declared.Settled.{Settled}
-use Rattle.settlement.specs.Book.{isSpoiled}
-use Rattle.settlement.specs.Events.{Call, hourCall, monthEndCall, yearEndCall, wanted, wants, fund, demand, lines, bookAfter, refusal, Answered}
+use Rattle.settlement.specs.Events.{Call, hourCall, monthEndCall, yearEndCall, wants, fund, lines, bookAfter, Answered}
 use Rattle.settlement.specs.Ledger.{Entry, bookAt, IsLedger}
 use Rattle.settlement.specs.Claim.{IsOwed, IsFund, Shared, Sound, SoundAtEach, Claim}
-use Rattle.settlement.proofs.Shares.{paid-most, near}
+use Rattle.settlement.proofs.Shares.{wanted, wants-long, paid-most, demand-of-all, near}
 use Rattle.settlement.proofs.Sane.{not-spoiled}
+use Rattle.settlement.proofs.Refusing.{never-1}
 use Rattle.settlement.proofs.Accepted.{hour-accepted, month-accepted, year-accepted}
-use Rattle.settlement.proofs.Readings.{Parts, refused-nothing, written-is, book-is, fund-is, demand-is, accepted-parts}
+use Rattle.settlement.proofs.EntryParts.{Parts, refused-nothing, written-is, book-is, fund-is, demand-is, accepted-parts}
 use Rattle.settlement.proofs.Kept.{Kept, kept-fresh, kept-refused}
 use Rattle.settlement.proofs.KeptHour.{hourEntry, kept-hour, target-is, brought}
 use Rattle.settlement.proofs.KeptMonth.{monthEntry, kept-month}
@@ -52,11 +51,11 @@ module _ (past : List Entry) (lent : List ℤ) (result : Settled) (written : Lis
   owed-is : (call : Call) (answered : Answered call (bookAt past) lent result written) → result .refusal ≡ 0
       → (owner : ℕ) → owner < owners
       → IsOwed past (record { call = call; lent = lent; result = result; written = written }) call owner (wanted call (bookAt past) owner)
-  unfolding wanted
+  unfolding wants
   owed-is (hourCall file prices collected) answered accepted owner inside =
       sym
       (target-is past file prices collected lent result written kept (accepted-parts past (hourEntry past file prices collected lent result written) answered accepted)
-      (hour-accepted file prices collected (bookAt past) (length lent) (sym (answered .number) ∙ accepted)) owner)
+      (hour-accepted file prices collected (bookAt past) (length lent) (sym (answered .number) ∙ accepted)) owner inside)
   owed-is monthEndCall answered accepted owner inside = kept .monthOwner owner inside
   owed-is yearEndCall answered accepted owner inside =
       omega (arith, kept .allOwner owner inside, kept .emptyMonth (year-closed answered accepted) .0 owner inside)
@@ -99,27 +98,16 @@ kept-next past entry kept answered = by-refusal (ℕ-discrete (entry .result .re
         subst (Kept (entry ∷ past)) (sym (same-book past entry answered refused))
         (kept-refused past entry (bookAt past) kept (refused-nothing past entry refused))
 
-kept-all : (ledger : List Entry) → IsLedger ledger → Kept ledger (bookAt ledger)
+pub kept-all : (ledger : List Entry) → IsLedger ledger → Kept ledger (bookAt ledger)
 unfolding bookAt
 kept-all [] tt = kept-fresh
 kept-all (entry ∷ past) answered = kept-next past entry (kept-all past (answered .1)) (answered .0)
 
 -- ---- at each entry
 
--- a book that is not spoiled is never refused with 1: no row but the first has that number
-never-1 : (call : Call) (book : Book) (places : ℕ) → isSpoiled book ≡ false → refusal call book places ≡ 1 → ⊥
-unfolding refusal
-never-1 (hourCall file prices collected) book places sane is =
-    false≢true (sym sane ∙ refusal-is 1 (isSpoiled book) _ (refusal-never 1 _ (omega arith) refl) is)
-never-1 monthEndCall book places sane is =
-    false≢true (sym sane ∙ refusal-is 1 (isSpoiled book) _ (refusal-never 1 _ (omega arith) refl) is)
-never-1 yearEndCall book places sane is =
-    false≢true (sym sane ∙ refusal-is 1 (isSpoiled book) _ (refusal-never 1 _ (omega arith) refl) is)
-
 module _ (past : List Entry) (entry : Entry) (kept : Kept past (bookAt past))
     (answered : Answered (entry .call) (bookAt past) (entry .lent) (entry .result) (entry .written)) where
   shared-out : entry .result .refusal ≡ 0 → Shared past entry
-  unfolding demand wants
   shared-out accepted =
       record {
         want = wanted (entry .call) (bookAt past);
@@ -127,16 +115,19 @@ module _ (past : List Entry) (entry : Entry) (kept : Kept past (bookAt past))
         fundIs =
             subst (IsFund past entry (entry .call)) (sym (fund-is past entry answered accepted))
             (is-fund past (entry .lent) (entry .result) (entry .written) kept (entry .call) answered accepted);
-        demandIs = demand-is past entry answered accepted;
-        atMost = λ owner inside. rw (parts .credits owner inside) (paid-most (entry .call) (bookAt past) owner inside);
+        demandIs = demand-is past entry answered accepted ∙ demand-of-all (entry .call) (bookAt past) long;
+        atMost = λ owner inside. rw (parts .credits owner inside) (paid-most (entry .call) (bookAt past) owner);
         near =
             λ owner inside.
             rw (parts .credits owner inside, fund-is past entry answered accepted, demand-is past entry answered accepted)
-            (near (entry .call) (bookAt past) owner inside);
+            (near (entry .call) (bookAt past) long owner inside);
       }
     where
       parts : Parts past entry
       parts = accepted-parts past entry answered accepted
+
+      long : length (wants (entry .call) (bookAt past)) ≡ owners
+      long = wants-long (entry .call) (bookAt past) (kept .long)
 
   sound-entry : Sound past entry
   sound-entry =

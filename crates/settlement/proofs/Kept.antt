@@ -7,19 +7,19 @@ use mathlib.Core.Logic.{_⊎_}
 use mathlib.Core.List.{List, [], _∷_}
 use native.Mathlib.Nat.{not-suc-le-zero}
 use native.Mathlib.Omega.{arith}
-use lib.ListN.{length, getD-replicate}
+use lib.ListN.{getD-replicate}
+use Rattle.numbers.specs.Limits.{owners}
 use Rattle.numbers.specs.Lists.{total}
 use Rattle.calendar.specs.Year.{monthsInYear}
-use Rattle.target.specs.Target.{owners}
 use Rattle.settlement.specs.declared.Book.{Book}
-use Rattle.settlement.specs.Book.{fresh, monthShort, openShortfall, fundLeft}
+use Rattle.settlement.specs.Book.{fresh, monthShort, openShortfall, isShort, fundLeft}
 use Rattle.settlement.specs.Ledger.{Entry, sumOver, sumSince, hourCount, monthEndCount, yearEndCount, positiveTarget, credit, hourCredit, charge, collection, ofAll}
-use Rattle.settlement.proofs.Readings.{Nothing, over-next, since-next, none-of-all}
+use Rattle.settlement.proofs.EntryParts.{Nothing, over-next, since-next, none-of-all}
 use Rattle.settlement.proofs.Sane.{Sane}
+use Rattle.settlement.proofs.Shares.{IsLong}
 
 pub record Kept (past : List Entry) (book : Book) : Type 0 where
-  pub monthLong : length (book .monthshort) ≡ owners
-  pub yearLong : length (book .yearshort) ≡ owners
+  pub long : IsLong book
   pub sane : Sane book
   pub hours : book .hours ≡ sumOver hourCount past
   pub months : book .months ≡ sumOver monthEndCount past
@@ -32,15 +32,14 @@ pub record Kept (past : List Entry) (book : Book) : Type 0 where
   pub monthFund : book .monthsurplus + sumSince (ofAll hourCredit) past ≡ sumSince collection past + sumSince (ofAll charge) past
   pub allFund : fundLeft book + sumOver (ofAll credit) past ≡ sumOver collection past + sumOver (ofAll charge) past
   pub emptyMonth : book .months ≡ monthsInYear → ((owner : ℕ) → owner < owners → monthShort book owner ≡ 0) × (book .monthsurplus ≡ 0)
-  pub yearDone : book .ended ≡ true → (fundLeft book ≡ 0) ⊎ ((owner : ℕ) → owner < owners → openShortfall book owner ≡ 0)
+  pub yearDone : book .ended ≡ true → (fundLeft book ≡ 0) ⊎ ((owner : ℕ) → owner < owners → isShort book owner ≡ false)
 
 -- the fresh book, before any call
 pub kept-fresh : Kept [] fresh
 unfolding fresh sumOver sumSince total
 kept-fresh =
     record {
-      monthLong = refl;
-      yearLong = refl;
+      long = record { month = refl; year = refl };
       sane =
           record {
             hoursMost = zero-le;
@@ -75,8 +74,7 @@ module _ (past : List Entry) (entry : Entry) (book : Book) (kept : Kept past boo
   pub kept-refused : Kept (entry ∷ past) book
   kept-refused =
       record {
-        monthLong = kept .monthLong;
-        yearLong = kept .yearLong;
+        long = kept .long;
         sane = kept .sane;
         hours = kept .hours ∙ over hourCount (none .hour);
         months = kept .months ∙ over monthEndCount (none .month);

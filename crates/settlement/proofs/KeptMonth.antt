@@ -1,75 +1,54 @@
 -- An accepted month end keeps the tie between the book and its entries.
 -- Assumes nothing.
 use Prim.Native.Nat.{ℕ, _+_, _≤_, _<_}
-use mathlib.Core.Path.{_≡_, refl, sym, ap, subst, _∙_}
-use mathlib.Core.Bool.{Bool, true, false, true≢false}
+use mathlib.Core.Path.{_≡_, refl, sym, ap, _∙_}
+use mathlib.Core.Bool.{true, false, true≢false}
 use mathlib.Core.List.{List, _∷_}
 use native.Mathlib.Nat.{le-of-eq}
 use native.Mathlib.Numerals.{add-one}
 use native.Mathlib.Omega.{arith}
 use lib.Dec.{ltb, eqb}
-use lib.ListN.{length, getD, replicate, getD-replicate, length-replicate}
+use lib.ListN.{getD, replicate, getD-replicate, length-replicate}
 use lib.IntN.{ℤ}
-use borrow.Author.Tests.{ltb-true, ltb-false, eqb-true}
-use Rattle.numbers.specs.Lists.{total, listBelow, anyBelow}
-use Rattle.numbers.proofs.Any.{any-miss}
-use Rattle.numbers.proofs.Counts.{length-listBelow, getD-listBelow, listBelow-getD, total-add, total-mono}
-use Rattle.numbers.proofs.Tests.{both-true}
-use Rattle.calendar.specs.Year.{monthsInYear, monthEnd}
-use Rattle.target.specs.Target.{owners}
+use borrow.Author.Tests.{ltb-true, eqb-true}
+use Rattle.numbers.specs.Limits.{owners}
+use Rattle.numbers.specs.Lists.{total, listBelow}
+use Rattle.numbers.proofs.Counts.{length-listBelow}
+use Rattle.numbers.proofs.Booleans.{both-true}
+use Rattle.calendar.specs.Year.{monthsInYear, monthEnd, isMonthEnd}
+use Rattle.calendar.proofs.MonthEnds.{months-rise}
 use Rattle.settlement.specs.declared.Book.{Book}
 use Rattle.settlement.specs.declared.Settled.{Settled}
-use Rattle.settlement.specs.Book.{monthShort, yearShort, isMonthDue}
-use Rattle.settlement.specs.Events.{monthEndCall, wanted, fund, paid, unpaid, leftOver, bookAfter}
+use Rattle.settlement.specs.Book.{monthShort, yearShort}
+use Rattle.settlement.specs.Events.{monthEndCall, wants, fund, paid, unpaidOf, addedTo, bookAfter}
 use Rattle.settlement.specs.Ledger.{Entry, bookAt, hourCount, monthEndCount, yearEndCount, positiveTarget, credit, hourCredit, charge, collection, ofAll}
-use Rattle.settlement.proofs.Shares.{paid-unpaid, unpaid-most, paid-closes, left-most}
+use Rattle.settlement.proofs.Paying.{unpaid-small, added-total}
+use Rattle.settlement.proofs.Shares.{paidTo, unpaid, leftOver, wants-long, added-at, unpaid-paid, paid-closes, left-most}
 use Rattle.settlement.proofs.Sane.{Sane}
-use Rattle.settlement.proofs.Readings.{Parts, over-next, since-closed, none-of-all}
+use Rattle.settlement.proofs.EntryParts.{Parts, over-next, since-closed, none-of-all}
 use Rattle.settlement.proofs.Kept.{Kept}
-
--- a month ends no later than the next, by one test over the months
-falls-back : ℕ → Bool
-falls-back month = ltb (monthEnd (month + 1)) (monthEnd month)
-
-never-back : anyBelow falls-back 11 ≡ false
-unfolding anyBelow falls-back
-never-back = refl
-
-rising : (month : ℕ) → month < 11 → monthEnd month ≤ monthEnd (month + 1)
-unfolding falls-back
-rising month inside = ltb-false (monthEnd (month + 1)) (monthEnd month) (any-miss falls-back 11 month never-back inside)
-
--- the sum of an owner's cells as a list of 64
-pub cells-total : (cells : List ℕ) → length cells ≡ owners → total (listBelow (λ owner. getD cells owner 0) owners) ≡ total cells
-cells-total cells long =
-    ap (λ (n : ℕ). total (listBelow (λ owner. getD cells owner 0) n)) (sym long) ∙ ap total (listBelow-getD cells 0)
 
 module _ (past : List Entry) (lent : List ℤ) (result : Settled) (written : List ℤ) where
   abbrev pub monthEntry : Entry
   monthEntry = record { call = monthEndCall; lent = lent; result = result; written = written }
 
   module _ (kept : Kept past (bookAt past)) (parts : Parts past monthEntry) (still-open : bookAt past .ended ≡ false)
-      (due : isMonthDue (bookAt past) ≡ true) where
+      (due : isMonthEnd (bookAt past .hours) (bookAt past .months) ≡ true) where
     abbrev book : Book
     book = bookAt past
 
     due-parts : (book .months < monthsInYear) × (book .hours ≡ monthEnd (book .months))
-    unfolding isMonthDue
     due-parts =
         let both = both-true (ltb (book .months) monthsInYear) (eqb (book .hours) (monthEnd (book .months))) due in
         (ltb-true (book .months) monthsInYear (both .0), eqb-true (book .hours) (monthEnd (book .months)) (both .1))
 
-    unpaid-total : total (listBelow (unpaid monthEndCall book) owners) ≤ total (book .monthshort)
-    unfolding wanted
-    unpaid-total =
-        subst (λ (n : ℕ). total (listBelow (unpaid monthEndCall book) owners) ≤ n) (cells-total (book .monthshort) (kept .monthLong))
-        (total-mono (unpaid monthEndCall book) (monthShort book) owners (λ owner _. unpaid-most monthEndCall book owner))
+    unpaid-total : total (unpaid monthEndCall book) ≤ total (book .monthshort)
+    unfolding wants
+    unpaid-total = unpaid-small (book .monthshort) (paid monthEndCall book) (kept .long .month)
 
-    year-total : total (listBelow (λ owner. yearShort book owner + unpaid monthEndCall book owner) owners)
-        ≡ total (book .yearshort) + total (listBelow (unpaid monthEndCall book) owners)
-    year-total =
-        total-add (yearShort book) (unpaid monthEndCall book) owners
-        ∙ ap (_+ total (listBelow (unpaid monthEndCall book) owners)) (cells-total (book .yearshort) (kept .yearLong))
+    year-total : total (addedTo (book .yearshort) (unpaid monthEndCall book)) ≡ total (book .yearshort) + total (unpaid monthEndCall book)
+    unfolding unpaidOf
+    year-total = added-total (book .yearshort) (unpaid monthEndCall book) (kept .long .year) (length-listBelow _ owners)
 
     no-cells : total (replicate owners 0) ≡ 0
     unfolding total
@@ -83,7 +62,7 @@ module _ (past : List Entry) (lent : List ℤ) (result : Settled) (written : Lis
           monthsMost = omega (arith, due-parts .0);
           afterLast = λ _. rw (add-one (book .months)) (le-of-eq (sym (due-parts .1)));
           beforeNext =
-              λ more. omega (arith, due-parts .1, rising (book .months) (omega arith));
+              λ more. omega (arith, due-parts .1, months-rise (book .months) more);
           full = λ e. due-parts .1 ∙ ap monthEnd (eleven e);
           endedFull = λ e. absurd (true≢false (sym e ∙ still-open));
           shortMost = omega (arith, no-cells, year-total, unpaid-total, kept .sane .shortMost);
@@ -98,28 +77,27 @@ module _ (past : List Entry) (lent : List ℤ) (result : Settled) (written : Lis
     month-after owner inside = getD-replicate owners owner 0 0 inside
 
     year-after : (owner : ℕ) → owner < owners
-        → yearShort (bookAfter monthEndCall book) owner ≡ yearShort book owner + unpaid monthEndCall book owner
+        → yearShort (bookAfter monthEndCall book) owner ≡ yearShort book owner + getD (unpaid monthEndCall book) owner 0
     unfolding bookAfter
-    year-after owner inside = getD-listBelow (λ o. yearShort book o + unpaid monthEndCall book o) owners 0 owner inside
+    year-after owner inside = added-at (book .yearshort) (unpaid monthEndCall book) owner inside
 
     want-paid : (owner : ℕ) → owner < owners
-        → unpaid monthEndCall book owner + paid monthEndCall book owner ≡ monthShort book owner
-    unfolding wanted
-    want-paid owner inside = paid-unpaid monthEndCall book owner inside
+        → getD (unpaid monthEndCall book) owner 0 + paidTo monthEndCall book owner ≡ monthShort book owner
+    unfolding wants
+    want-paid owner inside = unpaid-paid monthEndCall book owner inside
 
-    fund-closes : total (listBelow (paid monthEndCall book) owners) + leftOver monthEndCall book ≡ book .monthsurplus
+    fund-closes : total (listBelow (paidTo monthEndCall book) owners) + leftOver monthEndCall book ≡ book .monthsurplus
     unfolding fund
-    fund-closes = paid-closes monthEndCall book
+    fund-closes = paid-closes monthEndCall book (wants-long monthEndCall book (kept .long))
 
     no-charge : ofAll charge past monthEntry ≡ 0
     no-charge = none-of-all charge past monthEntry (parts .charges)
 
     pub kept-month : Kept (monthEntry ∷ past) (bookAfter monthEndCall book)
-    unfolding bookAfter
+    unfolding bookAfter addedTo
     kept-month =
         record {
-          monthLong = length-replicate {A = ℕ} owners 0;
-          yearLong = length-listBelow (λ o. yearShort book o + unpaid monthEndCall book o) owners;
+          long = record { month = length-replicate {A = ℕ} owners 0; year = length-listBelow _ owners };
           sane = sane-after;
           hours = omega (arith, kept .hours, over-next hourCount monthEntry past, parts .hour);
           months = omega (arith, kept .months, over-next monthEndCount monthEntry past, parts .month);

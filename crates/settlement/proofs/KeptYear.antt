@@ -1,29 +1,30 @@
 -- An accepted year end keeps the tie between the book and its entries, and leaves the fund empty or nobody short.
 -- Assumes nothing.
 use Prim.Native.Nat.{ℕ, _+_, _≤_, _<_}
-use mathlib.Core.Path.{_≡_, refl, subst}
+use mathlib.Core.Path.{_≡_, refl}
 use mathlib.Core.Bool.{Bool, true, false}
 use mathlib.Core.Logic.{_⊎_, inl, inr}
 use mathlib.Core.List.{List, _∷_}
 use native.Mathlib.Nat.{le-antisymm}
 use native.Mathlib.Omega.{arith}
 use lib.Dec.{leb}
+use lib.ListN.{getD}
 use lib.IntN.{ℤ}
-use borrow.Author.Tests.{leb-true, leb-false}
+use borrow.Author.Tests.{leb-true, leb-false, le-ltb}
+use Rattle.numbers.specs.Limits.{owners}
 use Rattle.numbers.specs.Lists.{total, listBelow}
-use Rattle.numbers.proofs.Counts.{length-listBelow, getD-listBelow, total-mono}
+use Rattle.numbers.proofs.Counts.{length-listBelow}
 use Rattle.calendar.specs.Year.{monthsInYear}
-use Rattle.target.specs.Target.{owners}
 use Rattle.settlement.specs.declared.Book.{Book}
 use Rattle.settlement.specs.declared.Settled.{Settled}
-use Rattle.settlement.specs.Book.{yearShort, openShortfall, fundLeft}
-use Rattle.settlement.specs.Events.{yearEndCall, wanted, fund, demand, paid, unpaid, leftOver, bookAfter}
+use Rattle.settlement.specs.Book.{yearShort, openShortfall, isShort, fundLeft}
+use Rattle.settlement.specs.Events.{yearEndCall, wants, fund, demand, paid, unpaidOf, bookAfter}
 use Rattle.settlement.specs.Ledger.{Entry, bookAt, hourCount, monthEndCount, yearEndCount, positiveTarget, credit, hourCredit, charge, collection, ofAll}
-use Rattle.settlement.proofs.Shares.{paid-unpaid, unpaid-most, paid-closes, left-most, all-paid, none-left}
+use Rattle.settlement.proofs.Paying.{unpaid-small}
+use Rattle.settlement.proofs.Shares.{paidTo, unpaid, leftOver, wants-long, unpaid-paid, paid-closes, left-most, all-paid, none-left}
 use Rattle.settlement.proofs.Sane.{Sane}
-use Rattle.settlement.proofs.Readings.{Parts, over-next, since-next, none-of-all}
+use Rattle.settlement.proofs.EntryParts.{Parts, over-next, since-next, none-of-all}
 use Rattle.settlement.proofs.Kept.{Kept}
-use Rattle.settlement.proofs.KeptMonth.{cells-total}
 
 module _ (past : List Entry) (lent : List ℤ) (result : Settled) (written : List ℤ) where
   abbrev pub yearEntry : Entry
@@ -36,11 +37,9 @@ module _ (past : List Entry) (lent : List ℤ) (result : Settled) (written : Lis
     pub closed : book .months ≡ monthsInYear
     closed = le-antisymm (kept .sane .monthsMost) complete
 
-    unpaid-total : total (listBelow (unpaid yearEndCall book) owners) ≤ total (book .yearshort)
-    unfolding wanted
-    unpaid-total =
-        subst (λ (n : ℕ). total (listBelow (unpaid yearEndCall book) owners) ≤ n) (cells-total (book .yearshort) (kept .yearLong))
-        (total-mono (unpaid yearEndCall book) (yearShort book) owners (λ owner _. unpaid-most yearEndCall book owner))
+    unpaid-total : total (unpaid yearEndCall book) ≤ total (book .yearshort)
+    unfolding wants
+    unpaid-total = unpaid-small (book .yearshort) (paid yearEndCall book) (kept .long .year)
 
     sane-after : Sane (bookAfter yearEndCall book)
     unfolding bookAfter fund
@@ -56,18 +55,18 @@ module _ (past : List Entry) (lent : List ℤ) (result : Settled) (written : Lis
           surplusMost = omega (arith, kept .sane .surplusMost, left-most yearEndCall book);
         }
 
-    year-after : (owner : ℕ) → owner < owners → yearShort (bookAfter yearEndCall book) owner ≡ unpaid yearEndCall book owner
+    year-after : (owner : ℕ) → yearShort (bookAfter yearEndCall book) owner ≡ getD (unpaid yearEndCall book) owner 0
     unfolding bookAfter
-    year-after owner inside = getD-listBelow (unpaid yearEndCall book) owners 0 owner inside
+    year-after owner = refl
 
     want-paid : (owner : ℕ) → owner < owners
-        → unpaid yearEndCall book owner + paid yearEndCall book owner ≡ yearShort book owner
-    unfolding wanted
-    want-paid owner inside = paid-unpaid yearEndCall book owner inside
+        → getD (unpaid yearEndCall book) owner 0 + paidTo yearEndCall book owner ≡ yearShort book owner
+    unfolding wants
+    want-paid owner inside = unpaid-paid yearEndCall book owner inside
 
-    fund-closes : total (listBelow (paid yearEndCall book) owners) + leftOver yearEndCall book ≡ book .yearsurplus
+    fund-closes : total (listBelow (paidTo yearEndCall book) owners) + leftOver yearEndCall book ≡ book .yearsurplus
     unfolding fund
-    fund-closes = paid-closes yearEndCall book
+    fund-closes = paid-closes yearEndCall book (wants-long yearEndCall book (kept .long))
 
     no-charge : ofAll charge past yearEntry ≡ 0
     no-charge = none-of-all charge past yearEntry (parts .charges)
@@ -77,29 +76,29 @@ module _ (past : List Entry) (lent : List ℤ) (result : Settled) (written : Lis
 
     -- the fund pays every want, or nothing of it is left
     done : (fundLeft (bookAfter yearEndCall book) ≡ 0)
-        ⊎ ((owner : ℕ) → owner < owners → openShortfall (bookAfter yearEndCall book) owner ≡ 0)
+        ⊎ ((owner : ℕ) → owner < owners → isShort (bookAfter yearEndCall book) owner ≡ false)
     unfolding bookAfter
     done = by-test (leb (demand yearEndCall book) (fund yearEndCall book)) refl
       where
         by-test : (test : Bool) → leb (demand yearEndCall book) (fund yearEndCall book) ≡ test
             → (fundLeft (bookAfter yearEndCall book) ≡ 0)
-            ⊎ ((owner : ℕ) → owner < owners → openShortfall (bookAfter yearEndCall book) owner ≡ 0)
+            ⊎ ((owner : ℕ) → owner < owners → isShort (bookAfter yearEndCall book) owner ≡ false)
         by-test true e =
             inr
             (λ owner inside.
-            omega
-            (arith, kept .emptyMonth closed .0 owner inside, year-after owner inside, all-paid yearEndCall book (leb-true (demand yearEndCall book) (fund yearEndCall book) e) owner inside))
+            le-ltb 0 (openShortfall (bookAfter yearEndCall book) owner)
+            (omega
+            (arith, kept .emptyMonth closed .0 owner inside, year-after owner, all-paid yearEndCall book (leb-true (demand yearEndCall book) (fund yearEndCall book) e) owner inside)))
         by-test false e =
             inl
             (omega
             (arith, kept .emptyMonth closed .1, none-left yearEndCall book (leb-false (demand yearEndCall book) (fund yearEndCall book) e)))
 
     pub kept-year : Kept (yearEntry ∷ past) (bookAfter yearEndCall book)
-    unfolding bookAfter
+    unfolding bookAfter unpaidOf
     kept-year =
         record {
-          monthLong = kept .monthLong;
-          yearLong = length-listBelow (unpaid yearEndCall book) owners;
+          long = record { month = kept .long .month; year = length-listBelow _ owners };
           sane = sane-after;
           hours = omega (arith, kept .hours, over-next hourCount yearEntry past, parts .hour);
           months = omega (arith, kept .months, over-next monthEndCount yearEntry past, parts .month);
@@ -112,7 +111,7 @@ module _ (past : List Entry) (lent : List ℤ) (result : Settled) (written : Lis
           allOwner =
               λ owner inside.
               omega
-              (arith, year-after owner inside, kept .allOwner owner inside, over-next (credit owner) yearEntry past, over-next (positiveTarget owner) yearEntry past, parts .credits owner inside, parts .target owner, want-paid owner inside);
+              (arith, year-after owner, kept .allOwner owner inside, over-next (credit owner) yearEntry past, over-next (positiveTarget owner) yearEntry past, parts .credits owner inside, parts .target owner, want-paid owner inside);
           monthFund =
               omega
               (arith, kept .monthFund, since-next (ofAll hourCredit) yearEntry past (parts .month), since-next collection yearEntry past (parts .month), since-next (ofAll charge) yearEntry past (parts .month), no-hour-credit, no-charge, parts .collected);

@@ -1,212 +1,237 @@
--- The refusals of an event, part by part as the code finds them, and what an event answers by them.
+-- The refusal table of an event, part by part as the code finds it, and what an event answers by it.
 -- Assumes nothing.
-use Prim.Native.Nat.{ℕ, _<_}
-use mathlib.Core.Path.{_≡_, refl, sym, _∙_}
-use mathlib.Core.Bool.{Bool, true, false, not, _&&_, _||_, false≢true}
-use mathlib.Core.List.{List, [], _∷_}
+use Prim.Native.Nat.{ℕ, _<_, _≤_}
+use mathlib.Core.Path.{_≡_, refl, sym, ap, ap₂, _∙_}
+use mathlib.Core.Bool.{Bool, true, false, _&&_, false≢true}
+use mathlib.Core.Logic.{⊎-elim}
+use mathlib.Core.List.{List, [], _∷_, _++_, append-nil}
+use native.Mathlib.Decide.{ℕ-discrete}
 use native.Mathlib.Omega.{arith}
 use lib.Dec.{leb, ltb, eqb}
 use lib.ListN.{length}
 use lib.IntN.{ℤ}
-use borrow.Author.Tests.{leb-false, lt-leb, eqb-true, not-false}
+use borrow.Author.Tests.{leb-false, lt-ltb, eqb-true, ltb-true, not-false}
+use Rattle.numbers.specs.Limits.{owners}
 use Rattle.numbers.specs.Refusals.{Row, _if_, firstRefusal}
-use Rattle.numbers.proofs.Refusals.{refusal-none, refusal-below, answer-accepted, answer-refused}
-use Rattle.numbers.proofs.Tests.{neither-true}
-use Rattle.calendar.specs.Year.{hoursInYear}
-use Rattle.rights.specs.Layout.{isWrongLength}
-use Rattle.rights.specs.Faults.{anyFault, namesFault}
-use Rattle.target.specs.Target.{owners, isWrongPriceCount, anyWild, earlyRows as targetRows, targetRefusal}
+use Rattle.numbers.proofs.Refusals.{isWithin, refusal-here, refusal-next, refusal-clear, refusal-append, refusal-rest, refusal-both, refusal-skip, refusal-within, refusal-most, within-append, within-wider, answer-accepted, answer-refused}
+use Rattle.numbers.proofs.Booleans.{both-true, neither-true}
+use Rattle.calendar.specs.Year.{hoursInYear, isMonthEnd}
+use Rattle.rights.specs.Faults.{anyFault, faultRows}
+use Rattle.rights.proofs.Faults.{rows-within, fault-from-rows}
+use Rattle.target.specs.Target.{isWrongLines, lentRows, targetRefusal}
+use Rattle.target.proofs.Answer.{lent-within, lent-rows}
 use Rattle.settlement.specs.declared.Book.{Book}
+use Rattle.settlement.specs.declared.Event.{Event}
+use Rattle.settlement.specs.declared.Event.the-variants.{Hour}
 use Rattle.settlement.specs.declared.Settled.{Settled}
-use Rattle.settlement.specs.Book.{isSpoiled, isMonthDue}
-use Rattle.settlement.specs.Events.{Call, hourCall, monthEndCall, yearEndCall, fund, demand, lines, bookAfter, isOutOfTurn, isWildAmount, isTooLarge, isCarryFull, refusal, namesRecord, Answered}
-use Rattle.settlement.specs.Parts.{earlyRows, inputRows}
+use Rattle.settlement.specs.Book.{isSpoiled}
+use Rattle.settlement.specs.Events.{Call, hourCall, monthEndCall, yearEndCall, eventOf, nextTargets, hourCharges, wants, fund, demand, lines, bookAfter, isOutOfTurn, isWildAmount, eventRows, inputRows, sizeRows, ownRows, refusal, namesRecord, Answered}
 
 -- ---- the rows that every event has
 
-abbrev early : (spoiled ended untimely few : Bool) → ℕ
-early s e u n = firstRefusal ((1 if s) ∷ (2 if e) ∷ (3 if u) ∷ (4 if n) ∷ [])
+module _ (event : Event) (book : Book) (places : ℕ) where
+  pub event-within : isWithin 1 4 (eventRows event book places) ≡ true
+  unfolding eventRows
+  event-within = refl
 
--- none of them holds
-early-clear : (s e u n : Bool) → early s e u n ≡ 0 → (s ≡ false) × (e ≡ false) × (u ≡ false) × (n ≡ false)
-unfolding firstRefusal
-early-clear true e u n z = absurd (omega arith)
-early-clear false true u n z = absurd (omega arith)
-early-clear false false true n z = absurd (omega arith)
-early-clear false false false true z = absurd (omega arith)
-early-clear false false false false z = (refl, refl, refl, refl)
-
--- an hour's fourth row has two more tests, and more rows follow
-early-first : (s e u n p f : Bool) (rows : List Row) → (early s e u n ≡ 0 → ⊥)
-    → early s e u n ≡ firstRefusal ((1 if s) ∷ (2 if e) ∷ (3 if u) ∷ (4 if n || p || f) ∷ rows)
-unfolding firstRefusal
-early-first true e u n p f rows some = refl
-early-first false true u n p f rows some = refl
-early-first false false true n p f rows some = refl
-early-first false false false true p f rows some = refl
-early-first false false false false p f rows some = absurd (some refl)
-
-early-then : (s e u n p f : Bool) (rows : List Row) → early s e u n ≡ 0
-    → firstRefusal ((1 if s) ∷ (2 if e) ∷ (3 if u) ∷ (4 if n || p || f) ∷ rows) ≡ firstRefusal ((4 if p || f) ∷ rows)
-unfolding firstRefusal
-early-then true e u n p f rows z = absurd (omega arith)
-early-then false true u n p f rows z = absurd (omega arith)
-early-then false false true n p f rows z = absurd (omega arith)
-early-then false false false true p f rows z = absurd (omega arith)
-early-then false false false false p f rows z = refl
-
-pub early-small : (book : Book) (untimely : Bool) (places : ℕ) → firstRefusal (earlyRows book untimely places) < 7
-unfolding earlyRows
-early-small book untimely places =
-    refusal-below 7 1 _ _ (omega arith)
-    (refusal-below 7 2 _ _ (omega arith)
-    (refusal-below 7 3 _ _ (omega arith) (refusal-below 7 4 _ [] (omega arith) (rw refusal-none (omega arith)))))
-
--- what a book and the lines are, where none of these rows holds
-pub early-sound : (book : Book) (untimely : Bool) (places : ℕ) → firstRefusal (earlyRows book untimely places) ≡ 0
-    → (isSpoiled book ≡ false) × (book .ended ≡ false) × (untimely ≡ false) × (places ≡ owners)
-unfolding earlyRows
-early-sound book untimely places z =
-    let e = early-clear (isSpoiled book) (book .ended) untimely (not (eqb places owners)) z in
-    (e .0, e .1, e .2, eqb-true places owners (not-false (eqb places owners) (e .3)))
-
--- ---- the rows of an hour's input: those of a target call, with the amount's between them
-
-abbrev input : (wrong wild amount bad unpriced : Bool) → List Row → ℕ
-input w x y a b rows = firstRefusal ((4 if w) ∷ (5 if x) ∷ (6 if y) ∷ (7 if a) ∷ (8 if b) ∷ rows)
-
-abbrev asked : (wrong wild bad unpriced : Bool) → ℕ
-asked w x a b = firstRefusal ((4 if w) ∷ (5 if x) ∷ (7 if a) ∷ (8 if b) ∷ [])
-
-before-amount : (w x y a b : Bool) → (ltb 0 (asked w x a b) && ltb (asked w x a b) 6) ≡ true → asked w x a b ≡ input w x y a b []
-unfolding firstRefusal
-before-amount true x y a b e = refl
-before-amount false true y a b e = refl
-before-amount false false y true b e = absurd (false≢true e)
-before-amount false false y false true e = absurd (false≢true e)
-before-amount false false y false false e = absurd (false≢true e)
-
-at-amount : (w x a b : Bool) → (ltb 0 (asked w x a b) && ltb (asked w x a b) 6) ≡ false → 6 ≡ input w x true a b []
-unfolding firstRefusal
-at-amount true x a b e = absurd (false≢true (sym e))
-at-amount false true a b e = absurd (false≢true (sym e))
-at-amount false false a b e = refl
-
-past-amount : (w x a b : Bool) → asked w x a b ≡ input w x false a b []
-unfolding firstRefusal
-past-amount true x a b = refl
-past-amount false true a b = refl
-past-amount false false a b = refl
-
-input-first : (w x y a b : Bool) (rows : List Row) → (input w x y a b [] ≡ 0 → ⊥) → input w x y a b [] ≡ input w x y a b rows
-unfolding firstRefusal
-input-first true x y a b rows some = refl
-input-first false true y a b rows some = refl
-input-first false false true a b rows some = refl
-input-first false false false true b rows some = refl
-input-first false false false false true rows some = refl
-input-first false false false false false rows some = absurd (some refl)
-
-input-then : (w x y a b : Bool) (rows : List Row) → input w x y a b [] ≡ 0
-    → (y ≡ false) × (input w x y a b rows ≡ firstRefusal rows)
-unfolding firstRefusal
-input-then true x y a b rows z = absurd (omega arith)
-input-then false true y a b rows z = absurd (omega arith)
-input-then false false true a b rows z = absurd (omega arith)
-input-then false false false true b rows z = absurd (omega arith)
-input-then false false false false true rows z = absurd (omega arith)
-input-then false false false false false rows z = (refl, refl)
-
-module _ (file : List ℕ) (prices : List ℤ) (collected : ℤ) where
-  abbrev isWrong : Bool
-  isWrong = isWrongPriceCount (length prices) || isWrongLength (length file)
-
-  abbrev fault : ℕ → Bool
-  fault number = anyFault (length prices) file number
-
-  -- a target call over 64 lines, in an hour of the year
-  module _ (hour : ℕ) (inside : hour < hoursInYear) where
-    call-rows : targetRefusal file prices hour owners
-        ≡ asked isWrong (anyWild prices) (fault 7) (fault 8)
-    unfolding targetRefusal targetRows firstRefusal
-    call-rows = rw (lt-leb hoursInYear hour inside)
-
-    pub call-before-amount : (number : ℕ) → number ≡ targetRefusal file prices hour owners
-        → (ltb 0 number && ltb number 6) ≡ true → number ≡ firstRefusal (inputRows file prices collected)
-    unfolding inputRows
-    call-before-amount number e test =
-        e ∙ call-rows ∙ before-amount isWrong (anyWild prices) (isWildAmount collected) (fault 7) (fault 8) (rw (e ∙ call-rows) at test)
-
-    pub call-at-amount : (number : ℕ) → number ≡ targetRefusal file prices hour owners
-        → (ltb 0 number && ltb number 6) ≡ false → isWildAmount collected ≡ true → 6 ≡ firstRefusal (inputRows file prices collected)
-    unfolding inputRows
-    call-at-amount number e test wild =
-        rw wild (at-amount isWrong (anyWild prices) (fault 7) (fault 8) (rw (e ∙ call-rows) at test))
-
-    pub call-past-amount : (number : ℕ) → number ≡ targetRefusal file prices hour owners → isWildAmount collected ≡ false
-        → number ≡ firstRefusal (inputRows file prices collected)
-    unfolding inputRows
-    call-past-amount number e wild =
-        rw wild (e ∙ call-rows ∙ past-amount isWrong (anyWild prices) (fault 7) (fault 8))
-
-  -- the refusal of an hour: from the early rows, then from its input, then from its size
-  module _ (book : Book) (places : ℕ) where
-    abbrev sizes : List Row
-    sizes = (9 if isTooLarge file prices collected book) ∷ (10 if isCarryFull (hourCall file prices collected) book) ∷ []
-
-    abbrev begun : ℕ
-    begun = firstRefusal (earlyRows book (isOutOfTurn (hourCall file prices collected) book) places)
-
-    abbrev given : ℕ
-    given = firstRefusal (inputRows file prices collected)
-
-    pub hour-early : (begun ≡ 0 → ⊥) → begun ≡ refusal (hourCall file prices collected) book places
-    unfolding earlyRows refusal
-    hour-early some = early-first (isSpoiled book) (book .ended) (isOutOfTurn (hourCall file prices collected) book) (not (eqb places owners)) _ _ _ some
-
-    later : begun ≡ 0 → refusal (hourCall file prices collected) book places ≡ input isWrong (anyWild prices) (isWildAmount collected) (fault 7) (fault 8) sizes
-    unfolding earlyRows refusal
-    later z = early-then (isSpoiled book) (book .ended) (isOutOfTurn (hourCall file prices collected) book) (not (eqb places owners)) _ _ _ z
-
-    pub hour-input : begun ≡ 0 → (given ≡ 0 → ⊥) → given ≡ refusal (hourCall file prices collected) book places
-    unfolding inputRows
-    hour-input z some =
-        input-first isWrong (anyWild prices) (isWildAmount collected) (fault 7) (fault 8) sizes some ∙ sym (later z)
-
-    pub hour-size : begun ≡ 0 → given ≡ 0 → firstRefusal sizes ≡ refusal (hourCall file prices collected) book places
-    unfolding inputRows
-    hour-size z none =
-        sym (later z ∙ input-then isWrong (anyWild prices) (isWildAmount collected) (fault 7) (fault 8) sizes none .1)
-
-  pub calm-amount : firstRefusal (inputRows file prices collected) ≡ 0 → isWildAmount collected ≡ false
-  unfolding inputRows
-  calm-amount none = input-then isWrong (anyWild prices) (isWildAmount collected) (fault 7) (fault 8) [] none .0
+  -- none of them holds
+  pub event-clear : firstRefusal (eventRows event book places) ≡ 0
+      → (isSpoiled book ≡ false) × (book .ended ≡ false) × (isOutOfTurn event book ≡ false) × (places ≡ owners)
+  unfolding eventRows
+  event-clear clear =
+      let r1 = refusal-clear 1 (isSpoiled book) _ (omega arith) clear in
+      let r2 = refusal-clear 2 (book .ended) _ (omega arith) (r1 .1) in
+      let r3 = refusal-clear 3 (isOutOfTurn event book) _ (omega arith) (r2 .1) in
+      let r4 = refusal-clear 4 _ [] (omega arith) (r3 .1) in
+      (r1 .0, r2 .0, r3 .0, eqb-true places owners (not-false (eqb places owners) (r4 .0)))
 
 -- the hour of a book in turn is one of the year
-pub in-turn : (file : List ℕ) (prices : List ℤ) (collected : ℤ) (book : Book)
-    → isOutOfTurn (hourCall file prices collected) book ≡ false → book .hours < hoursInYear
+pub in-turn : (book : Book) → isOutOfTurn Hour book ≡ false → (isMonthEnd (book .hours) (book .months) ≡ false) × (book .hours < hoursInYear)
 unfolding isOutOfTurn
-in-turn file prices collected book clear =
-    leb-false hoursInYear (book .hours) (neither-true (isMonthDue book) (leb hoursInYear (book .hours)) clear .1)
+in-turn book clear =
+    let both = neither-true (isMonthEnd (book .hours) (book .months)) (leb hoursInYear (book .hours)) clear in
+    (both .0, leb-false hoursInYear (book .hours) (both .1))
 
--- 9 and 10 name no record
-pub sizes-name : (prices : ℕ) (file : List ℕ) (large full : Bool)
-    → namesFault prices file (firstRefusal ((9 if large) ∷ (10 if full) ∷ [])) 0 ≡ true
-unfolding namesFault firstRefusal
-sizes-name prices file true full = refl
-sizes-name prices file false true = refl
-sizes-name prices file false false = refl
+-- ---- from the rows of every event to its own
 
--- the other two events have the early rows alone
-pub month-end-early : (book : Book) (places : ℕ)
-    → firstRefusal (earlyRows book (isOutOfTurn monthEndCall book) places) ≡ refusal monthEndCall book places
-unfolding earlyRows refusal
-month-end-early book places = refl
+module _ (call : Call) (book : Book) (places : ℕ) where
+  abbrev early : ℕ
+  early = firstRefusal (eventRows (eventOf call) book places)
 
-pub year-end-early : (book : Book) (places : ℕ)
-    → firstRefusal (earlyRows book (isOutOfTurn yearEndCall book) places) ≡ refusal yearEndCall book places
-unfolding earlyRows refusal
-year-end-early book places = refl
+  pub from-event : (early ≡ 0 → ⊥) → early ≡ refusal call book places
+  unfolding refusal
+  from-event some = sym (refusal-append (eventRows (eventOf call) book places) (ownRows call book) some)
+
+  pub from-own : early ≡ 0 → refusal call book places ≡ firstRefusal (ownRows call book)
+  unfolding refusal
+  from-own clear =
+      refusal-rest 1 4 (eventRows (eventOf call) book places) (ownRows call book) (omega arith)
+      (event-within (eventOf call) book places) clear
+
+  -- an event with no rows of its own
+  pub event-alone : ownRows call book ≡ [] → early ≡ refusal call book places
+  unfolding refusal
+  event-alone none =
+      ap firstRefusal
+      (sym
+      (ap (λ (rows : List Row). eventRows (eventOf call) book places ++ rows) none ∙ append-nil (eventRows (eventOf call) book places)))
+
+  -- an accepted call
+  pub accepted-early : refusal call book places ≡ 0 → early ≡ 0
+  unfolding refusal
+  accepted-early clear =
+      refusal-both 1 4 (eventRows (eventOf call) book places) (ownRows call book) (omega arith)
+      (event-within (eventOf call) book places) clear .0
+
+-- ---- an hour's input: the rows of what is lent, the amount's, the records'
+
+module _ (file : List ℕ) (prices : List ℤ) (collected : ℤ) where
+  abbrev lent : ℕ
+  lent = firstRefusal (lentRows file prices)
+
+  abbrev faults : List Row
+  faults = faultRows (length prices) file
+
+  abbrev input : ℕ
+  input = firstRefusal (inputRows file prices collected)
+
+  pub input-within : isWithin 4 8 (inputRows file prices collected) ≡ true
+  unfolding inputRows
+  input-within =
+      within-append 4 8 (lentRows file prices) _ (within-wider 4 5 4 8 (lentRows file prices) (omega arith) (omega arith) (lent-within file prices))
+      (within-wider 7 8 4 8 faults (omega arith) (omega arith) (rows-within (length prices) file))
+
+  from-lent : (lent ≡ 0 → ⊥) → input ≡ lent
+  unfolding inputRows
+  from-lent some = refusal-append (lentRows file prices) _ some
+
+  past-lent : lent ≡ 0 → input ≡ firstRefusal ((6 if isWildAmount collected) ∷ faults)
+  unfolding inputRows
+  past-lent clear = refusal-rest 4 5 (lentRows file prices) _ (omega arith) (lent-within file prices) clear
+
+  -- an amount that is not refused
+  pub calm-amount : input ≡ 0 → isWildAmount collected ≡ false
+  unfolding inputRows
+  calm-amount clear =
+      let rest = refusal-both 4 5 (lentRows file prices) _ (omega arith) (lent-within file prices) clear .1 in
+      refusal-clear 6 (isWildAmount collected) faults (omega arith) rest .0
+
+  -- a target call over 64 lines, in an hour of the year, whose number this is
+  module _ (hour : ℕ) (inside : hour < hoursInYear) (number : ℕ) (is : number ≡ targetRefusal file prices hour owners) where
+    called : number ≡ firstRefusal (lentRows file prices ++ faults)
+    called = is ∙ lent-rows file prices hour owners inside refl
+
+    called-lent : (lent ≡ 0 → ⊥) → number ≡ lent
+    called-lent some = called ∙ refusal-append (lentRows file prices) faults some
+
+    called-faults : lent ≡ 0 → number ≡ firstRefusal faults
+    called-faults clear = called ∙ refusal-rest 4 5 (lentRows file prices) faults (omega arith) (lent-within file prices) clear
+
+    -- a number below 6 comes from what is lent, and any other from the records
+    pub before-amount : (ltb 0 number && ltb number 6) ≡ true → number ≡ input
+    before-amount test = by-lent (ℕ-discrete lent 0)
+      where
+        by-lent : Dec (lent ≡ 0) → number ≡ input
+        by-lent (no some) = called-lent some ∙ sym (from-lent some)
+        by-lent (yes clear) =
+            let both = both-true (ltb 0 number) (ltb number 6) test in
+            absurd
+            (⊎-elim (λ none. omega (arith, ltb-true 0 number (both .0), called-faults clear)) (λ high. omega (arith, ltb-true number 6 (both .1), called-faults clear))
+            (refusal-within 7 8 faults (rows-within (length prices) file)))
+
+    lent-clear : (ltb 0 number && ltb number 6) ≡ false → lent ≡ 0
+    lent-clear test = by-lent (ℕ-discrete lent 0)
+      where
+        by-lent : Dec (lent ≡ 0) → lent ≡ 0
+        by-lent (yes clear) = clear
+        by-lent (no some) =
+            let most = refusal-most 4 5 (lentRows file prices) (lent-within file prices) in
+            let same = called-lent some in
+            absurd
+            (false≢true
+            (sym test ∙ ap₂ (λ (a b : Bool). a && b) (lt-ltb 0 number (omega (arith, some))) (lt-ltb number 6 (omega arith))))
+
+    pub at-amount : (ltb 0 number && ltb number 6) ≡ false → isWildAmount collected ≡ true → 6 ≡ input
+    at-amount test wild = sym (past-lent (lent-clear test) ∙ refusal-here 6 faults wild)
+
+    pub past-amount : (ltb 0 number && ltb number 6) ≡ false → isWildAmount collected ≡ false → number ≡ input
+    past-amount test calm =
+        called-faults (lent-clear test) ∙ sym (past-lent (lent-clear test) ∙ refusal-next 6 faults calm)
+
+-- ---- an hour's own rows: its input, then its size
+
+module _ (file : List ℕ) (prices : List ℤ) (collected : ℤ) (book : Book) where
+  abbrev call : Call
+  call = hourCall file prices collected
+
+  abbrev sizes : List Row
+  sizes = sizeRows book (fund call book) (wants call book) (hourCharges (nextTargets file prices book))
+
+  pub size-within : isWithin 9 10 sizes ≡ true
+  unfolding sizeRows
+  size-within = refl
+
+  pub own-within : isWithin 4 10 (ownRows call book) ≡ true
+  unfolding ownRows
+  own-within =
+      within-append 4 10 (inputRows file prices collected) sizes
+      (within-wider 4 8 4 10 (inputRows file prices collected) (omega arith) (omega arith) (input-within file prices collected))
+      (within-wider 9 10 4 10 sizes (omega arith) (omega arith) size-within)
+
+  pub own-input : (input file prices collected ≡ 0 → ⊥) → input file prices collected ≡ firstRefusal (ownRows call book)
+  unfolding ownRows
+  own-input some = sym (refusal-append (inputRows file prices collected) sizes some)
+
+  pub own-size : input file prices collected ≡ 0 → firstRefusal (ownRows call book) ≡ firstRefusal sizes
+  unfolding ownRows
+  own-size clear =
+      refusal-rest 4 8 (inputRows file prices collected) sizes (omega arith) (input-within file prices collected) clear
+
+  -- 7 and 8 come only where some record has the fault
+  pub fault-refused : (places k : ℕ) → 7 ≤ k → k ≤ 8 → refusal call book places ≡ k → anyFault (length prices) file k ≡ true
+  unfolding inputRows
+  fault-refused places k low high is =
+      by-early (ℕ-discrete (early call book places) 0)
+    where
+      from-records : firstRefusal ((6 if isWildAmount collected) ∷ faults file prices collected) ≡ k → anyFault (length prices) file k ≡ true
+      from-records is =
+          fault-from-rows (length prices) file k (λ e. omega arith)
+          (refusal-skip k 6 (isWildAmount collected) (faults file prices collected) (λ e. omega arith) is)
+
+      by-lent : Dec (lent file prices collected ≡ 0) → input file prices collected ≡ k → anyFault (length prices) file k ≡ true
+      by-lent (yes clear) is = from-records (sym (past-lent file prices collected clear) ∙ is)
+      by-lent (no some) is =
+          absurd
+          (omega (arith, from-lent file prices collected some, refusal-most 4 5 (lentRows file prices) (lent-within file prices)))
+
+      by-input : Dec (input file prices collected ≡ 0) → firstRefusal (ownRows call book) ≡ k → anyFault (length prices) file k ≡ true
+      by-input (no some) is = by-lent (ℕ-discrete (lent file prices collected) 0) (own-input some ∙ is)
+      by-input (yes clear) is =
+          absurd
+          (⊎-elim (λ none. omega (arith, own-size clear)) (λ late. omega (arith, own-size clear)) (refusal-within 9 10 sizes size-within))
+
+      by-early : Dec (early call book places ≡ 0) → anyFault (length prices) file k ≡ true
+      by-early (yes clear) = by-input (ℕ-discrete (input file prices collected) 0) (sym (from-own call book places clear) ∙ is)
+      by-early (no some) =
+          absurd
+          (omega
+          (arith, from-event call book places some, refusal-most 1 4 (eventRows (eventOf call) book places) (event-within (eventOf call) book places)))
+
+-- ---- every call
+
+pub own-rows-within : (call : Call) (book : Book) → isWithin 4 10 (ownRows call book) ≡ true
+unfolding ownRows
+own-rows-within (hourCall file prices collected) book = own-within file prices collected book
+own-rows-within monthEndCall book = refl
+own-rows-within yearEndCall book = refl
+
+-- a book that is not spoiled is never refused with 1: no row but the first has that number
+pub never-1 : (call : Call) (book : Book) (places : ℕ) → isSpoiled book ≡ false → refusal call book places ≡ 1 → ⊥
+unfolding refusal eventRows
+never-1 call book places sane is =
+    let rows = (2 if book .ended) ∷ (3 if isOutOfTurn (eventOf call) book) ∷ (4 if isWrongLines places) ∷ ownRows call book in
+    let within = within-wider 4 10 2 10 (ownRows call book) (omega arith) (omega arith) (own-rows-within call book) in
+    ⊎-elim (λ none. omega (arith, refusal-next 1 rows sane)) (λ high. omega (arith, refusal-next 1 rows sane)) (refusal-within 2 10 rows within)
 
 -- ---- what an event answers
 

@@ -6,9 +6,10 @@ use mathlib.Core.Bool.{Bool, true, false, not, _&&_}
 use native.Mathlib.Omega.{arith}
 use lib.Dec.{ltb, eqb}
 use borrow.Author.Tests.{le-ltb, le-leb, ltb-true, eqb-true, eq-eqb}
+use Rattle.numbers.specs.Limits.{mostCents}
 use Rattle.calendar.specs.Year.{hoursInYear, monthsInYear, monthEnd}
 use Rattle.settlement.specs.declared.Book.{Book}
-use Rattle.settlement.specs.Book.{allShortfalls, fundLeft, mostCents, mostSurplus, lastEnd, offMonth, outOfStep, isSpoiled}
+use Rattle.settlement.specs.Book.{allShortfalls, fundLeft, mostSurplus, lastEnd, offMonth, outOfStep, isSpoiled}
 
 pub record Sane (book : Book) : Type 0 where
   pub hoursMost : book .hours ≤ hoursInYear

@@ -1,12 +1,12 @@
--- The book: what it holds, when it is spoiled, and which event is due.
+-- The book: what it holds, and when it is spoiled.
 -- Assumes nothing.
 use Prim.Native.Nat.{ℕ, zero, suc, _+_, _*_}
 use mathlib.Core.Bool.{Bool, false, not, _&&_, _||_}
 use lib.Dec.{leb, ltb, eqb}
 use lib.ListN.{getD, replicate}
+use Rattle.numbers.specs.Limits.{owners, mostCents}
 use Rattle.numbers.specs.Lists.{total}
-use Rattle.calendar.specs.Year.{hoursInYear, monthsInYear, monthEnd, isMonthEnd}
-use Rattle.target.specs.Target.{owners}
+use Rattle.calendar.specs.Year.{hoursInYear, monthsInYear, monthEnd}
 use Rattle.settlement.specs.declared.Book.{Book}
 
 -- "all 0 when fresh"
@@ -33,6 +33,10 @@ yearShort book owner = getD (book .yearshort) owner 0
 abbrev pub openShortfall : Book → ℕ → ℕ
 openShortfall book owner = monthShort book owner + yearShort book owner
 
+-- "An owner is short while its open shortfall is above 0"
+abbrev pub isShort : Book → ℕ → Bool
+isShort book owner = ltb 0 (openShortfall book owner)
+
 -- "the fund left is both surpluses"
 abbrev pub fundLeft : Book → ℕ
 fundLeft book = book .monthsurplus + book .yearsurplus
@@ -41,13 +45,13 @@ fundLeft book = book .monthsurplus + book .yearsurplus
 abbrev pub allShortfalls : Book → ℕ
 allShortfalls book = total (book .monthshort) + total (book .yearshort)
 
--- the most cents of shortfalls, of positive targets or of charges
-abbrev pub mostCents : ℕ
-mostCents = 4_000_000_000
+-- "collected below 0 or above 4,000,000,000,000"
+abbrev pub mostCollected : ℕ
+mostCollected = 4_000_000_000_000
 
--- the most that one hour can bring: the largest amount collected and the most charges
+-- "4,004,000,000,000", the most that one hour can bring: the largest amount collected and the most charges
 abbrev pub mostSurplus : ℕ
-mostSurplus = 4_004_000_000_000
+mostSurplus = mostCollected + mostCents
 
 -- "the last closed month's end (0 if none)"
 abbrev pub lastEnd : ℕ → ℕ
@@ -75,7 +79,3 @@ isSpoiled book =
     outOfStep (book .hours) (book .months) (book .ended)
     || ltb mostCents (allShortfalls book)
     || ltb (book .hours * mostSurplus) (fundLeft book)
-
--- "the hours stand at the next month's end": the month end is due
-unfoldable pub isMonthDue : Book → Bool
-isMonthDue book = isMonthEnd (book .hours) (book .months)

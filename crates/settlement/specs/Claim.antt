@@ -1,16 +1,17 @@
 -- The claim over every list of calls from a fresh book. All but the open shortfalls and the fund left is read from the calls and the
 -- lines written; the entries below an entry are its past.
 -- Assumes nothing.
-use Prim.Native.Nat.{ℕ, _+_, _*_, _≤_, _<_}
+use Prim.Native.Nat.{ℕ, _+_, _≤_, _<_}
 use mathlib.Core.Path.{_≡_}
-use mathlib.Core.Bool.{true}
+use mathlib.Core.Bool.{true, false}
 use mathlib.Core.Logic.{_⊎_}
 use mathlib.Core.List.{List, [], _∷_}
 use lib.ListN.{length}
+use Rattle.numbers.specs.Limits.{owners}
 use Rattle.numbers.specs.Lists.{total, listBelow}
-use Rattle.target.specs.Target.{owners}
-use Rattle.settlement.specs.Book.{openShortfall, fundLeft}
-use Rattle.settlement.specs.Events.{Call, hourCall, monthEndCall, yearEndCall, positive, refusal, lines}
+use Rattle.split.specs.Split.{WithinACent}
+use Rattle.settlement.specs.Book.{openShortfall, isShort, fundLeft}
+use Rattle.settlement.specs.Events.{Call, hourCall, monthEndCall, yearEndCall, refusal, lines}
 use Rattle.settlement.specs.Ledger.{Entry, bookAt, sumOver, sumSince, hourCount, monthEndCount, yearEndCount, positiveTarget, credit, hourCredit, charge, collection, ofAll}
 
 -- "Owed to it, and so its want": at an hour its positive target; at a month end its positive targets less its credits in the accepted
@@ -29,13 +30,6 @@ IsFund past entry monthEndCall fund =
     fund + sumSince (ofAll hourCredit) past ≡ sumSince collection past + sumSince (ofAll charge) past
 IsFund past entry yearEndCall fund =
     fund + sumOver (ofAll credit) past ≡ sumOver collection past + sumOver (ofAll charge) past
-
--- "A payment is less than one cent from it if, where F ≥ D, it is w(i), and otherwise D times the payment and F times w(i) differ by
--- less than D"
-pub record WithinACent (fund demand want paid : ℕ) : Type 0 where
-  pub enough : demand ≤ fund → paid ≡ want
-  pub notAbove : fund < demand → demand * paid < fund * want + demand
-  pub notBelow : fund < demand → fund * want < demand * paid + demand
 
 -- an accepted call: "The accepted call reports this F and D, and they and the wants give the exact share"; each credit, zero included,
 -- is at most its want and less than one cent from the exact share
@@ -83,4 +77,4 @@ pub record Claim (ledger : List Entry) : Type 0 where
       → sumOver (positiveTarget owner) ledger ≡ sumOver (credit owner) ledger + openShortfall (bookAt ledger) owner
   -- "after an accepted year end the fund is empty or no owner is short"
   pub yearCloses : 0 < sumOver yearEndCount ledger
-      → (fundLeft (bookAt ledger) ≡ 0) ⊎ ((owner : ℕ) → owner < owners → openShortfall (bookAt ledger) owner ≡ 0)
+      → (fundLeft (bookAt ledger) ≡ 0) ⊎ ((owner : ℕ) → owner < owners → isShort (bookAt ledger) owner ≡ false)

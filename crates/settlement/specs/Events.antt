@@ -1,23 +1,26 @@
--- The three events of a book: their refusals, F, D, the lines and the book after them.
+-- The three events of a book: their wants, F, D, lines, the book after them, when they are due, and their refusals.
 -- Assumes nothing.
-use Prim.Native.Nat.{ℕ, suc, _+_, _-_}
+use Prim.Native.Nat.{ℕ, _+_, _-_}
 use mathlib.Core.Path.{_≡_}
 use mathlib.Core.Bool.{Bool, true, not, _||_}
-use mathlib.Core.List.{List, [], _∷_}
+use mathlib.Core.List.{List, [], _∷_, _++_}
 use lib.Dec.{leb, ltb, eqb}
-use lib.ListN.{length, replicate}
+use lib.ListN.{length, getD, replicate}
 use lib.IntN.{ℤ, pos, negsuc}
 use lib.Signed.{ltZ}
+use Rattle.numbers.specs.Limits.{owners, mostCents}
 use Rattle.numbers.specs.Lists.{total, listBelow}
-use Rattle.numbers.specs.Refusals.{_if_, firstRefusal, answerBy}
-use Rattle.calendar.specs.Year.{hoursInYear, monthsInYear}
-use Rattle.rights.specs.Layout.{isWrongLength}
-use Rattle.rights.specs.Faults.{anyFault, namesFault}
-use Rattle.split.specs.Split.{payment, left}
-use Rattle.target.specs.Target.{owners, isWrongPriceCount, anyWild, target}
+use Rattle.numbers.specs.Refusals.{Row, _if_, firstRefusal, answerBy}
+use Rattle.numbers.specs.Signs.{positive, negative}
+use Rattle.calendar.specs.Year.{hoursInYear, monthsInYear, isMonthEnd}
+use Rattle.rights.specs.Faults.{faultRows, namesFault}
+use Rattle.split.specs.Split.{payments, left}
+use Rattle.target.specs.Target.{isWrongLines, lentRows, targets}
 use Rattle.settlement.specs.declared.Book.{Book}
+use Rattle.settlement.specs.declared.Event.{Event}
+use Rattle.settlement.specs.declared.Event.the-variants.{Hour, MonthEnd, YearEnd}
 use Rattle.settlement.specs.declared.Settled.{Settled}
-use Rattle.settlement.specs.Book.{monthShort, yearShort, allShortfalls, mostCents, isSpoiled, isMonthDue}
+use Rattle.settlement.specs.Book.{mostCollected, allShortfalls, isSpoiled}
 
 -- a call: an hour with its rights, prices and the amount collected; a month end; a year end
 pub data Call : Type 0 where
@@ -25,35 +28,41 @@ pub data Call : Type 0 where
   monthEndCall : Call
   yearEndCall : Call
 
--- a number's positive part, and its negative part with the sign dropped
-abbrev pub positive : ℤ → ℕ
-positive (pos n) = n
-positive (negsuc n) = 0
+abbrev pub eventOf : Call → Event
+eventOf (hourCall file prices collected) = Hour
+eventOf monthEndCall = MonthEnd
+eventOf yearEndCall = YearEnd
 
-abbrev pub negative : ℤ → ℕ
-negative (pos n) = 0
-negative (negsuc n) = suc n
+-- ---- wants, F and D
 
--- the target of an owner in the book's next hour
-abbrev pub nextTarget : List ℕ → List ℤ → Book → ℕ → ℤ
-nextTarget file prices book owner = target file prices (book .hours) owner
+-- the targets of the book's next hour, and an owner's among 64 targets
+abbrev pub nextTargets : List ℕ → List ℤ → Book → List ℤ
+nextTargets file prices book = targets file prices (book .hours)
 
--- "wants are the positive targets"; "wants are the month shortfalls"; "the same from the year's cells"
-unfoldable pub wanted : Call → Book → ℕ → ℕ
-wanted (hourCall file prices collected) book owner = positive (nextTarget file prices book owner)
-wanted monthEndCall book owner = monthShort book owner
-wanted yearEndCall book owner = yearShort book owner
+abbrev pub targetOf : List ℤ → ℕ → ℤ
+targetOf targets owner = getD targets owner (pos 0)
 
-unfoldable pub wants : Call → Book → List ℕ
-wants call book = listBelow (wanted call book) owners
+-- "wants are the positive targets"
+unfoldable pub hourWants : List ℤ → List ℕ
+hourWants targets = listBelow (λ owner. positive (targetOf targets owner)) owners
 
 -- "all charges (the negative targets, sign dropped)"
-unfoldable pub charges : List ℕ → List ℤ → Book → ℕ
-charges file prices book = total (listBelow (λ owner. negative (nextTarget file prices book owner)) owners)
+unfoldable pub hourCharges : List ℤ → ℕ
+hourCharges targets = total (listBelow (λ owner. negative (targetOf targets owner)) owners)
 
--- "F is the amount collected plus all charges"; "F is the month surplus"; "the same from the year's cells"
+-- "F is the amount collected plus all charges"
+abbrev pub hourFund : ℕ → List ℤ → ℕ
+hourFund collected targets = collected + hourCharges targets
+
+-- at an hour those; "wants are the month shortfalls"; "the same from the year's cells"
+unfoldable pub wants : Call → Book → List ℕ
+wants (hourCall file prices collected) book = hourWants (nextTargets file prices book)
+wants monthEndCall book = book .monthshort
+wants yearEndCall book = book .yearshort
+
+-- at an hour that; "F is the month surplus"; "the same from the year's cells"
 unfoldable pub fund : Call → Book → ℕ
-fund (hourCall file prices collected) book = positive collected + charges file prices book
+fund (hourCall file prices collected) book = hourFund (positive collected) (nextTargets file prices book)
 fund monthEndCall book = book .monthsurplus
 fund yearEndCall book = book .yearsurplus
 
@@ -61,33 +70,39 @@ fund yearEndCall book = book .yearsurplus
 unfoldable pub demand : Call → Book → ℕ
 demand call book = total (wants call book)
 
--- what the split pays an owner, what stays unpaid of its want, and what is left of the fund
-unfoldable pub paid : Call → Book → ℕ → ℕ
-paid call book owner = payment (fund call book) (wants call book) owner
+-- what the split of F over the wants pays
+abbrev pub paid : Call → Book → List ℕ
+paid call book = payments (fund call book) (wants call book)
 
-unfoldable pub unpaid : Call → Book → ℕ → ℕ
-unpaid call book owner = wanted call book owner - paid call book owner
-
-unfoldable pub leftOver : Call → Book → ℕ
-leftOver call book = left (fund call book) (wants call book)
+-- ---- lines
 
 -- "an owner's line is its credit, or its negative target, or 0"
 abbrev pub hourLine : ℤ → ℕ → ℤ
 hourLine (pos n) credit = pos credit
 hourLine (negsuc n) credit = negsuc n
 
-unfoldable pub line : Call → Book → ℕ → ℤ
-line (hourCall file prices collected) book owner =
-    hourLine (nextTarget file prices book owner) (paid (hourCall file prices collected) book owner)
-line monthEndCall book owner = pos (paid monthEndCall book owner)
-line yearEndCall book owner = pos (paid yearEndCall book owner)
+unfoldable pub hourLines : List ℤ → List ℕ → List ℤ
+hourLines targets payments = listBelow (λ owner. hourLine (targetOf targets owner) (getD payments owner 0)) owners
+
+-- "lines are the payments"
+unfoldable pub paymentLines : List ℕ → List ℤ
+paymentLines payments = listBelow (λ owner. pos (getD payments owner 0)) owners
 
 unfoldable pub lines : Call → Book → List ℤ
-lines call book = listBelow (line call book) owners
+lines (hourCall file prices collected) book =
+    hourLines (nextTargets file prices book) (paid (hourCall file prices collected) book)
+lines monthEndCall book = paymentLines (paid monthEndCall book)
+lines yearEndCall book = paymentLines (paid yearEndCall book)
 
--- the month shortfalls after an hour: "Unpaid want is added to the owner's month shortfall"
-unfoldable pub monthAfterHour : Call → Book → List ℕ
-monthAfterHour call book = listBelow (λ owner. monthShort book owner + unpaid call book owner) owners
+-- ---- the book after an event
+
+-- "Unpaid want", for each owner
+unfoldable pub unpaidOf : List ℕ → List ℕ → List ℕ
+unpaidOf wants payments = listBelow (λ owner. getD wants owner 0 - getD payments owner 0) owners
+
+-- "is added to the owner's" cell
+unfoldable pub addedTo : List ℕ → List ℕ → List ℕ
+addedTo cells more = listBelow (λ owner. getD cells owner 0 + getD more owner 0) owners
 
 -- the book after an hour, with these month shortfalls: "what is left to the month surplus"
 abbrev pub bookAfterHour : Book → List ℕ → ℕ → Book
@@ -128,66 +143,69 @@ bookAfterYear book unpaidCells rest =
       yearsurplus = rest;
     }
 
--- the book after an accepted call: "Unpaid want is added to the owner's month shortfall"; "Unpaid wants are added to the year shortfalls"
+-- the book after an hour that splits this fund over these wants: "Unpaid want is added to the owner's month shortfall"
+abbrev pub hourBook : Book → ℕ → List ℕ → Book
+hourBook book fund wants =
+    bookAfterHour book (addedTo (book .monthshort) (unpaidOf wants (payments fund wants))) (left fund wants)
+
+-- the book after an accepted call: "Unpaid wants are added to the year shortfalls"; "Unpaid wants .. stay as the year's cells"
 unfoldable pub bookAfter : Call → Book → Book
 bookAfter (hourCall file prices collected) book =
-    bookAfterHour book (monthAfterHour (hourCall file prices collected) book) (leftOver (hourCall file prices collected) book)
+    hourBook book (fund (hourCall file prices collected) book) (wants (hourCall file prices collected) book)
 bookAfter monthEndCall book =
-    bookAfterMonth book (listBelow (λ owner. yearShort book owner + unpaid monthEndCall book owner) owners) (leftOver monthEndCall book)
-bookAfter yearEndCall book = bookAfterYear book (listBelow (unpaid yearEndCall book) owners) (leftOver yearEndCall book)
+    bookAfterMonth book (addedTo (book .yearshort) (unpaidOf (wants monthEndCall book) (paid monthEndCall book)))
+    (left (fund monthEndCall book) (wants monthEndCall book))
+bookAfter yearEndCall book =
+    bookAfterYear book (unpaidOf (wants yearEndCall book) (paid yearEndCall book))
+    (left (fund yearEndCall book) (wants yearEndCall book))
+
+-- ---- refusals
 
 -- 3: "hour while a month end is due or after 8,760; month end unless the hours stand at the next month's end; year end before 12
 -- months"
-unfoldable pub isOutOfTurn : Call → Book → Bool
-isOutOfTurn (hourCall file prices collected) book = isMonthDue book || leb hoursInYear (book .hours)
-isOutOfTurn monthEndCall book = not (isMonthDue book)
-isOutOfTurn yearEndCall book = ltb (book .months) monthsInYear
+unfoldable pub isOutOfTurn : Event → Book → Bool
+isOutOfTurn Hour book = isMonthEnd (book .hours) (book .months) || leb hoursInYear (book .hours)
+isOutOfTurn MonthEnd book = not (isMonthEnd (book .hours) (book .months))
+isOutOfTurn YearEnd book = ltb (book .months) monthsInYear
+
+-- an event is due exactly if neither 2, "year over", nor 3, "out of turn", covers it
+unfoldable pub isDue : Event → Book → Bool
+isDue event book = not (book .ended || isOutOfTurn event book)
 
 -- 6: "collected below 0 or above 4,000,000,000,000"
-abbrev pub mostCollected : ℕ
-mostCollected = 4_000_000_000_000
-
 abbrev pub isWildAmount : ℤ → Bool
 isWildAmount collected = ltZ collected (pos 0) || ltZ (pos mostCollected) collected
 
--- 9: "positive targets, or charges, above 4,000,000,000 in total"
-unfoldable pub isTooLarge : List ℕ → List ℤ → ℤ → Book → Bool
-isTooLarge file prices collected book =
-    ltb mostCents (demand (hourCall file prices collected) book) || ltb mostCents (charges file prices book)
+-- the rows that every event has: 1, 2, 3, and 4 for its lines
+unfoldable pub eventRows : Event → Book → ℕ → List Row
+eventRows event book places =
+    (1 if isSpoiled book) ∷ (2 if book .ended) ∷ (3 if isOutOfTurn event book) ∷ (4 if isWrongLines places) ∷ []
 
--- 10: "all shortfalls after the hour would pass 4,000,000,000"
-unfoldable pub isCarryFull : Call → Book → Bool
-isCarryFull call book = ltb mostCents (allShortfalls (bookAfter call book))
+-- the rows of an hour's rights, prices and amount: 4 to 8
+unfoldable pub inputRows : List ℕ → List ℤ → ℤ → List Row
+inputRows file prices collected = lentRows file prices ++ ((6 if isWildAmount collected) ∷ faultRows (length prices) file)
 
--- the refusals of a call on a book, with so many lines lent
+-- the rows of an hour's size, by its F, wants and charges: 9, "positive targets, or charges, above 4,000,000,000 in total"; 10, "all
+-- shortfalls after the hour would pass 4,000,000,000"
+unfoldable pub sizeRows : Book → ℕ → List ℕ → ℕ → List Row
+sizeRows book fund wants charges =
+    (9 if ltb mostCents (total wants))
+    ∷ (9 if ltb mostCents charges)
+    ∷ (10 if ltb mostCents (allShortfalls (hourBook book fund wants)))
+    ∷ []
+
+-- the rows that an event has beside those of every event: an hour alone has some
+unfoldable pub ownRows : Call → Book → List Row
+ownRows (hourCall file prices collected) book =
+    inputRows file prices collected
+    ++ sizeRows book (fund (hourCall file prices collected) book) (wants (hourCall file prices collected) book)
+    (hourCharges (nextTargets file prices book))
+ownRows monthEndCall book = []
+ownRows yearEndCall book = []
+
+-- the refusal of a call on a book, with so many lines lent
 unfoldable pub refusal : Call → Book → ℕ → ℕ
-refusal (hourCall file prices collected) book places =
-    firstRefusal
-    ((1 if isSpoiled book)
-    ∷ (2 if book .ended)
-    ∷ (3 if isOutOfTurn (hourCall file prices collected) book)
-    ∷ (4 if not (eqb places owners) || isWrongPriceCount (length prices) || isWrongLength (length file))
-    ∷ (5 if anyWild prices)
-    ∷ (6 if isWildAmount collected)
-    ∷ (7 if anyFault (length prices) file 7)
-    ∷ (8 if anyFault (length prices) file 8)
-    ∷ (9 if isTooLarge file prices collected book)
-    ∷ (10 if isCarryFull (hourCall file prices collected) book)
-    ∷ [])
-refusal monthEndCall book places =
-    firstRefusal
-    ((1 if isSpoiled book)
-    ∷ (2 if book .ended)
-    ∷ (3 if isOutOfTurn monthEndCall book)
-    ∷ (4 if not (eqb places owners))
-    ∷ [])
-refusal yearEndCall book places =
-    firstRefusal
-    ((1 if isSpoiled book)
-    ∷ (2 if book .ended)
-    ∷ (3 if isOutOfTurn yearEndCall book)
-    ∷ (4 if not (eqb places owners))
-    ∷ [])
+refusal call book places = firstRefusal (eventRows (eventOf call) book places ++ ownRows call book)
 
 -- the record number of a result: 0, except in an hour's 7 and 8, where it names a record with the fault
 unfoldable pub namesRecord : Call → ℕ → ℕ → Bool

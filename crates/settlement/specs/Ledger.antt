@@ -4,13 +4,15 @@ use Prim.Native.Nat.{ℕ, _+_}
 use mathlib.Core.List.{List, [], _∷_}
 use lib.ListN.{getD}
 use lib.IntN.{ℤ, pos}
+use Rattle.numbers.specs.Limits.{owners}
 use Rattle.numbers.specs.Lists.{total, listBelow}
 use Rattle.numbers.specs.Refusals.{answerBy}
-use Rattle.target.specs.Target.{owners, target}
+use Rattle.numbers.specs.Signs.{positive, negative}
+use Rattle.target.specs.Target.{target}
 use Rattle.settlement.specs.declared.Book.{Book}
 use Rattle.settlement.specs.declared.Settled.{Settled}
 use Rattle.settlement.specs.Book.{fresh}
-use Rattle.settlement.specs.Events.{Call, hourCall, monthEndCall, yearEndCall, positive, negative, Answered}
+use Rattle.settlement.specs.Events.{Call, hourCall, monthEndCall, yearEndCall, Answered}
 
 -- an entry: a call, the lines lent with it, its result, and the lines after it
 pub record Entry : Type 0 where

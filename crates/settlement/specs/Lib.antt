@@ -1,5 +1,7 @@
 pub mod Book
 pub mod Claim
 pub mod Events
+pub mod InnerContracts
 pub mod Ledger
-pub mod Parts
+pub mod Progress
+pub mod WholeYear

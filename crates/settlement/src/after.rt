@@ -3,9 +3,10 @@ ghost use Prim.Native.Nat.{_+_, _^_, _≤_, _<_};
 ghost use mathlib.Core.Path.{_≡_};
 ghost use Rattle.settlement.specs.Events.{bookAfterHour, bookAfterMonth, bookAfterYear};
 use crate::Book;
+use numbers::OWNERS;
 
 // One hour more: its month cells, and what it leaves.
-pub(crate) fn hour(mut book: Book, cells: [u64; 64], rest: u64) -> Book
+pub(crate) fn hour(mut book: Book, cells: [u64; OWNERS], rest: u64) -> Book
     requires { ⌜ (book .hours + 1 < 2 ^ 64) × (book .monthsurplus + rest < 2 ^ 64) ⌝ }
     ensures { λ r. ⌜ r ≡ bookAfterHour book cells rest ⌝ }
 {
@@ -16,12 +17,12 @@ pub(crate) fn hour(mut book: Book, cells: [u64; 64], rest: u64) -> Book
 }
 
 // One month more: its unpaid wants in the year cells, what it leaves in the year surplus, and no month cells.
-pub(crate) fn month(mut book: Book, cells: [u64; 64], rest: u64) -> Book
+pub(crate) fn month(mut book: Book, cells: [u64; OWNERS], rest: u64) -> Book
     requires { ⌜ (book .months + 1 < 2 ^ 64) × (rest ≤ book .monthsurplus) × (book .monthsurplus + book .yearsurplus < 2 ^ 64) ⌝ }
     ensures { λ r. ⌜ r ≡ bookAfterMonth book cells rest ⌝ }
 {
     book.months += 1;
-    book.monthshort = [0; 64];
+    book.monthshort = [0; OWNERS];
     book.yearshort = cells;
     book.yearsurplus += rest;
     book.monthsurplus = 0;
@@ -29,7 +30,7 @@ pub(crate) fn month(mut book: Book, cells: [u64; 64], rest: u64) -> Book
 }
 
 // The year is ended: its unpaid wants and what it leaves stay.
-pub(crate) fn year(mut book: Book, unpaid: [u64; 64], rest: u64) -> Book
+pub(crate) fn year(mut book: Book, unpaid: [u64; OWNERS], rest: u64) -> Book
     ensures { λ r. ⌜ r ≡ bookAfterYear book unpaid rest ⌝ }
 {
     book.ended = true;

@@ -4,33 +4,42 @@ ghost use Prim.Native.Nat.{_<_};
 ghost use mathlib.Core.Path.{_≡_};
 ghost use mathlib.Core.Bool.{false, true};
 ghost use lib.ListN.{length};
+ghost use Rattle.numbers.specs.Limits.{owners};
 ghost use Rattle.numbers.specs.Refusals.{firstRefusal};
 ghost use Rattle.calendar.specs.Year.{hoursInYear};
 ghost use Rattle.rights.specs.Faults.{namesFault};
 ghost use Rattle.target.specs.Target.{targets};
 ghost use Rattle.settlement.specs.Book.{fresh as freshBook};
-ghost use Rattle.settlement.specs.Events.{hourCall, monthEndCall, yearEndCall, Answered};
-ghost use Rattle.settlement.specs.Parts.{inputRows};
-use rights::Fault;
+ghost use Rattle.settlement.specs.Events.{hourCall, monthEndCall, yearEndCall, inputRows, isDue, Answered};
+use numbers::OWNERS;
+use rights::Outcome;
 
 mod after;
 mod cells;
-mod owner;
+mod lines;
 mod payment;
-mod turn;
+mod refusals;
+mod spoiled;
 
 // The most cents collected in an hour.
-const MOST_COLLECTED: i64 = 4_000_000_000_000;
+pub(crate) const MOST_COLLECTED: i64 = 4_000_000_000_000;
 
 // What is settled and what is open. Amounts are cents; a caller may hand over any book.
 pub struct Book {
     pub hours: u64,
     pub months: u64,
     pub ended: bool,
-    pub monthshort: [u64; 64],
-    pub yearshort: [u64; 64],
+    pub monthshort: [u64; OWNERS],
+    pub yearshort: [u64; OWNERS],
     pub monthsurplus: u64,
     pub yearsurplus: u64,
+}
+
+// What can happen to a book.
+pub enum Event {
+    Hour,
+    MonthEnd,
+    YearEnd,
 }
 
 // What an event gives beside the lines.
@@ -51,11 +60,19 @@ impl Book {
             hours: 0,
             months: 0,
             ended: false,
-            monthshort: [0; 64],
-            yearshort: [0; 64],
+            monthshort: [0; OWNERS],
+            yearshort: [0; OWNERS],
             monthsurplus: 0,
             yearsurplus: 0,
         }
+    }
+
+    // Whether an event is due: the book is not ended, and it is the event's turn.
+    pub fn is_due(self, event: Event) -> bool
+        ensures { λ r. ⌜ r ≡ isDue event self ⌝ }
+    {
+        let untimely = refusals::is_out_of_turn(self, event);
+        !(self.ended | untimely)
     }
 
     // Settles the next hour: writes each owner's credit or charge, and puts what is unpaid and what is left into the month's cells.
@@ -68,25 +85,21 @@ impl Book {
     ) -> Settled
         ensures { λ r. ⌜ Answered (hourCall (now (rights .entry)) (now (prices .entry)) collected) self (now (lines .entry)) r (now (lines .exit)) ⌝ }
     {
-        let untimely = turn::is_month_due(self.hours, self.months)
-            | (calendar::HOURS_IN_YEAR <= self.hours);
-        let early = turn::early_refusal(self, untimely, lines.len());
+        let early = refusals::of_event(self, Event::Hour, lines.len());
         if early != 0 {
             return refused(self, early, 0);
         }
-        let mut targets = [0i64; 64];
-        let fault = hour_targets(rights, prices, self.hours, collected, &mut targets);
-        if fault.refusal != 0 {
-            return refused(self, fault.refusal, fault.faulty);
+        let mut targets = [0i64; OWNERS];
+        let outcome = hour_targets(rights, prices, self.hours, collected, &mut targets);
+        if outcome.refusal != 0 {
+            return refused(self, outcome.refusal, outcome.faulty);
         }
-        let month = self.monthshort;
-        let year = self.yearshort;
-        let shares = payment::share_out(month, year, collected as u64, targets);
+        let shares = payment::share_out(self, numbers::positive_part(collected), targets);
         if shares.refusal != 0 {
             return refused(self, shares.refusal, 0);
         }
         let payments = shares.payments;
-        owner::write_lines(targets, payments, lines);
+        lines::write_hour(targets, payments, lines);
         let cells = shares.monthshort;
         self = after::hour(self, cells, shares.left);
         Settled {
@@ -102,15 +115,14 @@ impl Book {
     pub fn month_end(mut self, lines: &mut [i64]) -> Settled
         ensures { λ r. ⌜ Answered monthEndCall self (now (lines .entry)) r (now (lines .exit)) ⌝ }
     {
-        let untimely = !turn::is_month_due(self.hours, self.months);
-        let early = turn::early_refusal(self, untimely, lines.len());
+        let early = refusals::of_event(self, Event::MonthEnd, lines.len());
         if early != 0 {
             return refused(self, early, 0);
         }
         let fund = self.monthsurplus;
         let wants = self.monthshort;
         let year = self.yearshort;
-        let demand = cells::capped_total(0, &wants);
+        let demand = numbers::capped_total(numbers::MOST_CENTS, 0, &wants);
         let paid = payment::close(fund, wants, lines);
         let unpaid = paid.unpaid;
         let cells = cells::added(year, unpaid);
@@ -128,14 +140,13 @@ impl Book {
     pub fn year_end(mut self, lines: &mut [i64]) -> Settled
         ensures { λ r. ⌜ Answered yearEndCall self (now (lines .entry)) r (now (lines .exit)) ⌝ }
     {
-        let untimely = self.months < calendar::MONTHS_IN_YEAR;
-        let early = turn::early_refusal(self, untimely, lines.len());
+        let early = refusals::of_event(self, Event::YearEnd, lines.len());
         if early != 0 {
             return refused(self, early, 0);
         }
         let fund = self.yearsurplus;
         let wants = self.yearshort;
-        let demand = cells::capped_total(0, &wants);
+        let demand = numbers::capped_total(numbers::MOST_CENTS, 0, &wants);
         let paid = payment::close(fund, wants, lines);
         let unpaid = paid.unpaid;
         self = after::year(self, unpaid, paid.left);
@@ -168,23 +179,23 @@ fn hour_targets(
     prices: &[i32],
     hour: u64,
     collected: i64,
-    lines: &mut [i64; 64],
-) -> Fault
+    lines: &mut [i64; OWNERS],
+) -> Outcome
     requires { ⌜ hour < hoursInYear ⌝ }
-    requires { ⌜ length (now lines) ≡ 64 ⌝ }
+    requires { ⌜ length (now lines) ≡ owners ⌝ }
     ensures { λ r. ⌜ r .refusal ≡ firstRefusal (inputRows (now (rights .entry)) (now (prices .entry)) collected) ⌝ }
     ensures { λ r. ⌜ namesFault (length (now (prices .entry))) (now (rights .entry)) (r .refusal) (r .faulty) ≡ true ⌝ }
     ensures { λ r. ⌜ (r .refusal ≡ 0 → now (lines .exit) ≡ targets (now (rights .entry)) (now (prices .entry)) hour) ⌝ }
 {
-    let fault = target::targets(rights, prices, hour, lines);
-    if (0 < fault.refusal) & (fault.refusal < 6) {
-        return fault;
+    let outcome = target::targets(rights, prices, hour, lines);
+    if (0 < outcome.refusal) & (outcome.refusal < 6) {
+        return outcome;
     }
     if (collected < 0) | (MOST_COLLECTED < collected) {
-        return Fault {
+        return Outcome {
             refusal: 6,
             faulty: 0,
         };
     }
-    fault
+    outcome
 }

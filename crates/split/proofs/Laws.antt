@@ -13,10 +13,10 @@ use lib.ListN.{length, getD}
 use borrow.Author.Tests.{ltb-true, lt-ltb, le-leb, lt-leb}
 use Rattle.numbers.specs.Lists.{total, countBelow}
 use Rattle.numbers.proofs.Counts.{one-if-mono, count-le, count-mono, length-listBelow, getD-listBelow, getD-beyond, listBelow-getD, listBelow-ext, total-add, total-count, rank}
-use Rattle.split.specs.Parts.{aheadBy}
-use Rattle.split.specs.Split.{want, wholePart, remainder, unpaidCents, isAhead, getsOddCent, payment, payments, left}
+use Rattle.split.specs.InnerContracts.{aheadBy}
+use Rattle.split.specs.Split.{WithinACent, want, wholePart, remainder, unpaidCents, isAhead, getsOddCent, payment, payments, left}
 use Rattle.split.proofs.Order.{below-or-not, ahead-larger, ahead-tie, ahead-irreflexive, ahead-transitive, ahead-one-way}
-use Rattle.split.proofs.Shares.{whole-and-rest, rest-small, whole-and-unpaid, unpaid-le-rests, whole-le-want, whole-lt-want}
+use Rattle.split.proofs.Shares.{whole-and-remainder, remainder-small, whole-and-unpaid, unpaid-le-remainders, whole-le-want, whole-lt-want}
 
 module _ (fund : ℕ) (wants : List ℕ) where
   pub payments-length : length (payments fund wants) ≡ length wants
@@ -58,7 +58,7 @@ module _ (fund : ℕ) (wants : List ℕ) where
       let r = remainder fund wants in
       let n = length wants in
       let E = unpaidCents fund wants in
-      let few = unpaid-le-rests fund wants short in
+      let few = unpaid-le-remainders fund wants short in
       let all = count-le (λ i. ltb 0 (r i)) n in
       rank (aheadBy r) (ahead-irreflexive r) (ahead-transitive r) (ahead-one-way r) n E ∙ min-eq-left (le-trans few all)
 
@@ -80,15 +80,15 @@ module _ (fund : ℕ) (wants : List ℕ) where
       enough h = omega (arith, ap total (closes-enough h .0), closes-enough h .1)
 
   -- who gets an odd cent has a remainder: without one, all that have one stand ahead, and they are no fewer than the cents
-  pub odd-has-rest : fund < total wants → (i : ℕ) → getsOddCent fund wants i ≡ true → 0 < remainder fund wants i
+  pub odd-has-remainder : fund < total wants → (i : ℕ) → getsOddCent fund wants i ≡ true → 0 < remainder fund wants i
   unfolding getsOddCent isAhead
-  odd-has-rest short i odd = ⊎-elim none (λ h. h) (eq-zero-or-pos (remainder fund wants i))
+  odd-has-remainder short i odd = ⊎-elim none (λ h. h) (eq-zero-or-pos (remainder fund wants i))
     where
       none : remainder fund wants i ≡ 0 → 0 < remainder fund wants i
       none e =
           let r = remainder fund wants in
           let n = length wants in
-          let few = unpaid-le-rests fund wants short in
+          let few = unpaid-le-remainders fund wants short in
           let ahead = count-mono (λ j. ltb 0 (r j)) (aheadBy r i) n (λ j l h. ahead-larger (r i) i (r j) j (omega (arith, ltb-true 0 (r j) h))) in
           omega (arith, ltb-true (countBelow (aheadBy r i) n) (unpaidCents fund wants) odd)
 
@@ -105,7 +105,7 @@ module _ (fund : ℕ) (wants : List ℕ) where
       (below-or-not fund (total wants))
     where
       go : fund < total wants → (t : Bool) → getsOddCent fund wants i ≡ t → payment fund wants i ≤ want wants i
-      go short true e = omega (arith, short-parts short i true e, whole-lt-want fund wants short i (odd-has-rest short i e))
+      go short true e = omega (arith, short-parts short i true e, whole-lt-want fund wants short i (odd-has-remainder short i e))
       go short false e = omega (arith, short-parts short i false e, whole-le-want fund wants short i)
 
   pub payments-at-most : (i : ℕ) → getD (payments fund wants) i 0 ≤ getD wants i 0
@@ -117,21 +117,30 @@ module _ (fund : ℕ) (wants : List ℕ) where
       (below-or-not i (length wants))
 
   -- D times a payment and the fund times its want differ by less than D
-  pub within-a-cent : fund < total wants → (i : ℕ)
+  differ-less : fund < total wants → (i : ℕ)
       → (total wants * payment fund wants i < fund * want wants i + total wants)
       × (fund * want wants i < total wants * payment fund wants i + total wants)
-  within-a-cent short i = go (getsOddCent fund wants i) refl
+  differ-less short i = go (getsOddCent fund wants i) refl
     where
       go : (t : Bool) → getsOddCent fund wants i ≡ t
           → (total wants * payment fund wants i < fund * want wants i + total wants)
           × (fund * want wants i < total wants * payment fund wants i + total wants)
       go true e =
           let p = ap (λ (x : ℕ). total wants * x) (short-parts short i true e) in
-          let some = odd-has-rest short i e in
-          omega (arith, whole-and-rest fund wants i, rest-small fund wants i (omega arith))
+          let some = odd-has-remainder short i e in
+          omega (arith, whole-and-remainder fund wants i, remainder-small fund wants i (omega arith))
       go false e =
           let p = ap (λ (x : ℕ). total wants * x) (short-parts short i false e) in
-          omega (arith, whole-and-rest fund wants i, rest-small fund wants i (omega arith))
+          omega (arith, whole-and-remainder fund wants i, remainder-small fund wants i (omega arith))
+
+  -- each payment is less than one cent from its exact share
+  pub within-a-cent : (i : ℕ) → WithinACent fund (total wants) (want wants i) (payment fund wants i)
+  within-a-cent i =
+      record {
+        enough = λ h. paid-in-full h i;
+        notAbove = λ short. differ-less short i .0;
+        notBelow = λ short. differ-less short i .1;
+      }
 
   pub wants-nothing : (i : ℕ) → want wants i ≡ 0 → payment fund wants i ≡ 0
   wants-nothing i none = omega (arith, at-most-want i)
@@ -159,7 +168,7 @@ module _ (fund : ℕ) (wants : List ℕ) where
       short h =
           let D = total wants in
           let whole : wholePart fund wants i ≡ wholePart fund wants j = ap (λ (w : ℕ). fund * w / D) same in
-          let rest : remainder fund wants i ≡ remainder fund wants j = ap (λ (w : ℕ). fund * w - D * (fund * w / D)) same in
-          let lower = one-if-mono (getsOddCent fund wants j) (getsOddCent fund wants i) (odd-lower i j l rest) in
+          let remainder : remainder fund wants i ≡ remainder fund wants j = ap (λ (w : ℕ). fund * w - D * (fund * w / D)) same in
+          let lower = one-if-mono (getsOddCent fund wants j) (getsOddCent fund wants i) (odd-lower i j l remainder) in
           let one = one-if-mono (getsOddCent fund wants i) true (λ _. refl) in
           omega (arith, paid-short h i, paid-short h j)

@@ -1,3 +1,4 @@
+pub mod Answers
+pub mod Laws
 pub mod Order
 pub mod Shares
-pub mod Laws

@@ -7,7 +7,7 @@ use mathlib.Core.Path.{_≡_, refl, sym, ap, _∙_}
 use native.Mathlib.Nat.{eq-or-lt-of-le}
 use native.Mathlib.Omega.{arith}
 use lib.Dec.{ltb, eqb}
-use Rattle.split.specs.Parts.{aheadBy}
+use Rattle.split.specs.InnerContracts.{aheadBy}
 use Rattle.split.specs.Split.{standsAhead}
 use borrow.Author.Tests.{ltb-true, ltb-false, lt-ltb, le-ltb, eq-eqb, ne-eqb}
 
@@ -38,12 +38,12 @@ module _ (x i y j : ℕ) where
       ∙ ap (λ (s : Bool). s && ltb j i) (ne-eqb x y (omega arith))
 
   -- the three ways in which two owners can stand
-  pub by-rest : (P : Type 0) → (x < y → P) → (x ≡ y → P) → (y < x → P) → P
-  by-rest P less same more = ⊎-elim less (λ le. ⊎-elim (λ e. same (sym e)) more (eq-or-lt-of-le le)) (below-or-not x y)
+  pub by-remainder : (P : Type 0) → (x < y → P) → (x ≡ y → P) → (y < x → P) → P
+  by-remainder P less same more = ⊎-elim less (λ le. ⊎-elim (λ e. same (sym e)) more (eq-or-lt-of-le le)) (below-or-not x y)
 
   pub ahead-means : standsAhead x i y j ≡ true → (x < y) ⊎ ((x ≡ y) × (j < i))
   ahead-means t =
-      by-rest
+      by-remainder
       ((x < y) ⊎ ((x ≡ y) × (j < i)))
       (λ less. inl less)
       (λ same. inr (same, ltb-true j i (sym (ahead-tie same) ∙ t)))
@@ -64,7 +64,7 @@ ahead-transitive r i j k s t =
 
 pub ahead-one-way : (r : ℕ → ℕ) (i j : ℕ) → (i ≡ j → ⊥) → aheadBy r i j ≡ not (aheadBy r j i)
 ahead-one-way r i j apart =
-    by-rest
+    by-remainder
     (r i)
     i
     (r j)

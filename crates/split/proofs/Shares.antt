@@ -13,13 +13,13 @@ use Rattle.split.specs.Split.{want, wholePart, remainder, unpaidCents}
 
 module _ (fund : ℕ) (wants : List ℕ) where
   -- a share, times D, is its whole part and its remainder
-  pub whole-and-rest : (i : ℕ) → total wants * wholePart fund wants i + remainder fund wants i ≡ fund * want wants i
+  pub whole-and-remainder : (i : ℕ) → total wants * wholePart fund wants i + remainder fund wants i ≡ fund * want wants i
   unfolding wholePart remainder
-  whole-and-rest i = add-sub-of-le (mul-div-le (fund * want wants i) (total wants))
+  whole-and-remainder i = add-sub-of-le (mul-div-le (fund * want wants i) (total wants))
 
-  pub rest-small : (i : ℕ) → 0 < total wants → remainder fund wants i < total wants
+  pub remainder-small : (i : ℕ) → 0 < total wants → remainder fund wants i < total wants
   unfolding wholePart remainder
-  rest-small i h =
+  remainder-small i h =
       subst (λ (r : ℕ). r < total wants) (mod-def (fund * want wants i) (total wants)) (mod-lt (fund * want wants i) h)
 
   -- all shares together, times D, are the fund times D
@@ -33,7 +33,7 @@ module _ (fund : ℕ) (wants : List ℕ) where
       let r = remainder fund wants in
       let parts = total-add (λ i. D * w i) r n in
       let scaled = total-scale D w n in
-      let same = ap total (listBelow-ext (λ i. D * w i + r i) (λ i. fund * want wants i) n (λ i l. whole-and-rest i)) in
+      let same = ap total (listBelow-ext (λ i. D * w i + r i) (λ i. fund * want wants i) n (λ i l. whole-and-remainder i)) in
       let out = total-scale fund (want wants) n in
       let all = ap (λ (s : ℕ). fund * s) (ap total (listBelow-getD wants 0)) in
       omega arith
@@ -50,18 +50,18 @@ module _ (fund : ℕ) (wants : List ℕ) where
     unpaid-times = let e = ap (λ (s : ℕ). total wants * s) whole-and-unpaid in omega (arith, shares-total)
 
     -- so there are no more unpaid cents than remainders above 0
-    pub unpaid-le-rests : unpaidCents fund wants ≤ countBelow (λ i. ltb 0 (remainder fund wants i)) (length wants)
-    unpaid-le-rests =
-        let most = total-le-count (remainder fund wants) (total wants) (length wants) (λ i l. let s = rest-small i (omega arith) in omega arith) in
+    pub unpaid-le-remainders : unpaidCents fund wants ≤ countBelow (λ i. ltb 0 (remainder fund wants i)) (length wants)
+    unpaid-le-remainders =
+        let most = total-le-count (remainder fund wants) (total wants) (length wants) (λ i l. let s = remainder-small i (omega arith) in omega arith) in
         le-of-mul-le-mul-left {k = total wants} (omega (arith, unpaid-times)) (omega arith)
 
     -- a whole part is at most the want, and less if there is a remainder
     pub whole-le-want : (i : ℕ) → wholePart fund wants i ≤ want wants i
     whole-le-want i =
         let less = mul-le-mul-right (want wants i) (le-of-lt short) in
-        le-of-mul-le-mul-left {k = total wants} (omega (arith, whole-and-rest i)) (omega arith)
+        le-of-mul-le-mul-left {k = total wants} (omega (arith, whole-and-remainder i)) (omega arith)
 
     pub whole-lt-want : (i : ℕ) → 0 < remainder fund wants i → wholePart fund wants i < want wants i
-    whole-lt-want i rest =
+    whole-lt-want i remainder =
         let less = mul-le-mul-right (want wants i) (le-of-lt short) in
-        lt-of-mul-lt-mul-left (total wants) (omega (arith, whole-and-rest i))
+        lt-of-mul-lt-mul-left (total wants) (omega (arith, whole-and-remainder i))

@@ -1,2 +1,2 @@
-pub mod Parts
+pub mod InnerContracts
 pub mod Split

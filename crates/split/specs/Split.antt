@@ -1,11 +1,13 @@
--- The proportional split of a fund over a list of wants, in whole cents. All of it is for any fund and any list: the bounds
--- (64 owners, 4,000,000,000 cents) stand in the refusal table alone.
+-- The proportional split of a fund over a list of wants, in whole cents. All of it is for any fund and any list: the bounds of
+-- owners and cents stand in the refusal table alone.
 -- Assumes nothing.
-use Prim.Native.Nat.{ℕ, _+_, _-_, _*_, _/_}
+use Prim.Native.Nat.{ℕ, _+_, _-_, _*_, _/_, _≤_, _<_}
+use mathlib.Core.Path.{_≡_}
 use mathlib.Core.Bool.{Bool, cond, not, _&&_, _||_}
 use mathlib.Core.List.{List, [], _∷_}
 use lib.Dec.{leb, ltb, eqb}
 use lib.ListN.{length, getD}
+use Rattle.numbers.specs.Limits.{owners, mostCents}
 use Rattle.numbers.specs.Lists.{total, countBelow, listBelow}
 use Rattle.numbers.specs.Refusals.{firstRefusal, _if_, answerBy}
 use Rattle.split.specs.declared.Allocation.{Allocation}
@@ -49,11 +51,22 @@ payments fund wants = listBelow (payment fund wants) (length wants)
 unfoldable pub left : ℕ → List ℕ → ℕ
 left fund wants = cond (leb (total wants) fund) (fund - total wants) 0
 
--- the refusals of a split call: the wants, and how many payments are lent
+-- "A payment is less than one cent from it if, where F ≥ D, it is w(i), and otherwise D times the payment and F times w(i) differ by
+-- less than D"
+pub record WithinACent (fund demand want paid : ℕ) : Type 0 where
+  pub enough : demand ≤ fund → paid ≡ want
+  pub notAbove : fund < demand → demand * paid < fund * want + demand
+  pub notBelow : fund < demand → fund * want < demand * paid + demand
+
+-- the refusals of a split call over these wants, with so many payments lent: 4, "split slices of unequal length or above 64"; 11,
+-- "split called with D above 4,000,000,000"
 unfoldable pub splitRefusal : List ℕ → ℕ → ℕ
 splitRefusal wants places =
     firstRefusal
-    ((4 if not (eqb (length wants) places) || ltb 64 (length wants)) ∷ (11 if ltb 4_000_000_000 (total wants)) ∷ [])
+    ((4 if not (eqb (length wants) places))
+    ∷ (4 if ltb owners (length wants))
+    ∷ (11 if ltb mostCents (total wants))
+    ∷ [])
 
 -- what a split call answers
 unfoldable pub allocation : ℕ → List ℕ → ℕ → Allocation

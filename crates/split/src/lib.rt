@@ -1,41 +1,20 @@
 // The proportional split of a fund, in whole cents.
 
-ghost use Prim.Native.Nat.{ℕ, _<_, _≤_, min};
+ghost use Prim.Native.Nat.{ℕ, _<_, _≤_};
 ghost use mathlib.Core.Path.{_≡_};
 ghost use mathlib.Core.Bool.{cond};
 ghost use lib.Dec.{ltb};
 ghost use lib.ListN.{length, getD};
-ghost use Rattle.numbers.specs.Lists.{total, listBelow};
-ghost use Rattle.split.specs.Parts.{placeOf, withOddCent, Short, WholePaid};
+ghost use Rattle.numbers.specs.Limits.{mostCents};
+ghost use Rattle.numbers.specs.Lists.{listBelow};
+ghost use Rattle.split.specs.InnerContracts.{placeOf, withOddCent, Short, WholePaid};
 ghost use Rattle.split.specs.Split.{payment, allocation, paymentsAfter, standsAhead};
-
-// A split over more owners is refused.
-pub const MOST_OWNERS: usize = 64;
-
-// A split over more wanted cents is refused. Up to this sum, a fund below it times a want fits 64 bits.
-pub const MOST_WANTED: u64 = 4_000_000_000;
+use numbers::OWNERS;
 
 // What a split call gives beside the payments.
 pub struct Allocation {
     pub refusal: u8,
     pub left: u64,
-}
-
-// The sum of the wants, or one above the limit once it is passed: the wants are any numbers, so that their sum could wrap.
-fn wanted(wants: &[u64]) -> u64
-    ensures { λ r. ⌜ r ≡ min (total (now (wants .entry))) 4_000_000_001 ⌝ }
-{
-    let mut sum: u64 = 0;
-    let mut i = 0;
-    while i < wants.len() {
-        let want = wants[i];
-        if want > MOST_WANTED - sum {
-            return MOST_WANTED + 1;
-        }
-        sum += want;
-        i += 1;
-    }
-    sum
 }
 
 // Pays each owner its want.
@@ -56,11 +35,11 @@ fn pay_whole_parts(
     sum: u64,
     wants: &[u64],
     payments: &mut [u64],
-    rests: &mut [u64],
+    remainders: &mut [u64],
 ) -> u64
     requires { ⌜ Short fund sum (now wants) (now payments) ⌝ }
-    requires { ⌜ length (now wants) ≤ length (now rests) ⌝ }
-    ensures { λ r. ⌜ WholePaid fund (now (wants .entry)) (now (payments .exit)) (now (rests .exit)) r ⌝ }
+    requires { ⌜ length (now wants) ≤ length (now remainders) ⌝ }
+    ensures { λ r. ⌜ WholePaid fund (now (wants .entry)) (now (payments .exit)) (now (remainders .exit)) r ⌝ }
 {
     let mut unpaid = fund;
     let mut i = 0;
@@ -68,7 +47,7 @@ fn pay_whole_parts(
         let share = fund * wants[i];
         let whole = share / sum;
         payments[i] = whole;
-        rests[i] = share - sum * whole;
+        remainders[i] = share - sum * whole;
         unpaid -= whole;
         i += 1;
     }
@@ -76,13 +55,13 @@ fn pay_whole_parts(
 }
 
 // 1 if the other owner, with the number j, stands ahead of owner i for an odd cent: a larger remainder, or an equal one and a lower number.
-fn ahead(rest: u64, i: usize, other: u64, j: usize) -> u64
-    ensures { λ r. ⌜ r ≡ cond (standsAhead rest i other j) 1 0 ⌝ }
+fn ahead(remainder: u64, i: usize, other: u64, j: usize) -> u64
+    ensures { λ r. ⌜ r ≡ cond (standsAhead remainder i other j) 1 0 ⌝ }
 {
-    if rest < other {
+    if remainder < other {
         return 1;
     }
-    if rest > other {
+    if remainder > other {
         return 0;
     }
     if j < i {
@@ -92,16 +71,16 @@ fn ahead(rest: u64, i: usize, other: u64, j: usize) -> u64
 }
 
 // How many of the owners stand ahead of owner i.
-fn place(rests: &[u64], owners: usize, i: usize) -> u64
-    requires { ⌜ owners ≤ length (now rests) ⌝ }
+fn place(remainders: &[u64], owners: usize, i: usize) -> u64
+    requires { ⌜ owners ≤ length (now remainders) ⌝ }
     requires { ⌜ i < owners ⌝ }
-    ensures { λ r. ⌜ r ≡ placeOf (now (rests .entry)) owners i ⌝ }
+    ensures { λ r. ⌜ r ≡ placeOf (now (remainders .entry)) owners i ⌝ }
 {
-    let rest = rests[i];
+    let remainder = remainders[i];
     let mut place: u64 = 0;
     let mut j = 0;
     while j < owners {
-        place += ahead(rest, i, rests[j], j);
+        place += ahead(remainder, i, remainders[j], j);
         j += 1;
     }
     place
@@ -115,15 +94,15 @@ fn odd_cent(place: u64, unpaid: u64) -> u64
 }
 
 // Adds an odd cent to the payment of each owner who has fewer ahead than cents are unpaid.
-fn pay_odd_cents(rests: &[u64], unpaid: u64, payments: &mut [u64])
-    requires { ⌜ length (now payments) ≤ length (now rests) ⌝ }
-    requires { ⌜ ((k : ℕ) → getD (now payments) k 0 ≤ 4_000_000_000) ⌝ }
-    ensures { λ _. ⌜ now (payments .exit) ≡ listBelow (withOddCent (now (rests .entry)) unpaid (now (payments .entry))) (length (now (payments .entry))) ⌝ }
+fn pay_odd_cents(remainders: &[u64], unpaid: u64, payments: &mut [u64])
+    requires { ⌜ length (now payments) ≤ length (now remainders) ⌝ }
+    requires { ⌜ ((k : ℕ) → getD (now payments) k 0 ≤ mostCents) ⌝ }
+    ensures { λ _. ⌜ now (payments .exit) ≡ listBelow (withOddCent (now (remainders .entry)) unpaid (now (payments .entry))) (length (now (payments .entry))) ⌝ }
 {
     let owners = payments.len();
     let mut i = 0;
     while i < owners {
-        payments[i] += odd_cent(place(rests, owners, i), unpaid);
+        payments[i] += odd_cent(place(remainders, owners, i), unpaid);
         i += 1;
     }
 }
@@ -133,10 +112,10 @@ fn pay_shares(fund: u64, sum: u64, wants: &[u64], payments: &mut [u64])
     requires { ⌜ Short fund sum (now wants) (now payments) ⌝ }
     ensures { λ _. ⌜ now (payments .exit) ≡ listBelow (payment fund (now (wants .entry))) (length (now (wants .entry))) ⌝ }
 {
-    let mut rests: [u64; 64] = [0; 64];
-    let unpaid = pay_whole_parts(fund, sum, wants, payments, &mut rests);
+    let mut remainders = [0u64; OWNERS];
+    let unpaid = pay_whole_parts(fund, sum, wants, payments, &mut remainders);
     if unpaid > 0 {
-        pay_odd_cents(&rests, unpaid, payments);
+        pay_odd_cents(&remainders, unpaid, payments);
     }
 }
 
@@ -159,11 +138,11 @@ pub fn split(fund: u64, wants: &[u64], payments: &mut [u64]) -> Allocation
     if wants.len() != payments.len() {
         return refused(4);
     }
-    if wants.len() > MOST_OWNERS {
+    if wants.len() > OWNERS {
         return refused(4);
     }
-    let sum = wanted(wants);
-    if sum > MOST_WANTED {
+    let sum = numbers::capped_total(numbers::MOST_CENTS + 1, 0, wants);
+    if sum > numbers::MOST_CENTS {
         return refused(11);
     }
     if fund >= sum {

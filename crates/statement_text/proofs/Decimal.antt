@@ -9,7 +9,7 @@ use native.Mathlib.Omega.{arith}
 use lib.Dec.{ltb}
 use lib.ListN.{length, length-append}
 use borrow.Author.Tests.{ltb-true, ltb-false, lt-ltb, le-ltb}
-use Rattle.statement_text.specs.Buffer.{Wrote}
+use Rattle.statement_text.specs.InnerContracts.{Wrote}
 use Rattle.statement_text.proofs.Pieces.{wrote-then}
 use Rattle.statement_text.specs.Text.{digit, digitsWithin, digits}
 

@@ -2,4 +2,3 @@ pub mod Decimal
 pub mod Lines
 pub mod Pieces
 pub mod Room
-pub mod Unsigned

@@ -10,24 +10,22 @@ use native.Mathlib.Omega.{arith}
 use lib.ListN.{length, getD, length-append}
 use lib.IntN.{ℤ, pos, negsuc, natAbs}
 use lib.Signed.{ltZ}
-use mir.Syntax.{w64}
-use mir.Val.{SFits, toZ, ofZ}
 use borrow.Author.Tests.{ltb-true}
-use Rattle.numbers.proofs.Signed.{fits-abs}
-use Rattle.statement_text.proofs.Unsigned.{size-same}
-use Rattle.statement_text.specs.Buffer.{Wrote}
+use Rattle.numbers.specs.Limits.{owners}
+use Rattle.numbers.specs.Signs.{positive, negative}
+use Rattle.statement_text.specs.InnerContracts.{Wrote}
 use Rattle.statement_text.specs.Text.{minus, newline, digits, signedDigits, field, signedField, lineText, ownerText, ownersText, eventText, fundText, refusalText, fieldRoom, lineRoom, eventRoom}
 use Rattle.statement_text.proofs.Decimal.{digits-room, digits-half-room}
 use Rattle.statement_text.proofs.Pieces.{wrote-length, wrote-then, wrote-as, three, four, five}
 
 -- ---- a number with its sign
 
-pub signed-negative : (z : ℤ) → ltZ z (pos 0) ≡ true → signedDigits z ≡ minus ∷ digits (natAbs z)
+pub signed-negative : (z : ℤ) → ltZ z (pos 0) ≡ true → signedDigits z ≡ minus ∷ digits (negative z)
 unfolding signedDigits
 signed-negative (pos n) less = absurd (not-suc-le-zero (ltb-true n 0 less))
 signed-negative (negsuc n) less = refl
 
-pub signed-positive : (z : ℤ) → ltZ z (pos 0) ≡ false → signedDigits z ≡ digits (natAbs z)
+pub signed-positive : (z : ℤ) → ltZ z (pos 0) ≡ false → signedDigits z ≡ digits (positive z)
 unfolding signedDigits
 signed-positive (pos n) e = refl
 signed-positive (negsuc n) e = absurd (false≢true (sym e))
@@ -44,10 +42,6 @@ signed-length (negsuc n) few = omega (arith, digits-half-room (suc n) few)
 
 pub signed-field-length : (z : ℤ) → natAbs z ≤ 2 ^ 63 → length (signedField z) ≤ fieldRoom
 signed-field-length z few = omega (arith, signed-length z few)
-
--- the digits of a size that the code read from a number's bits
-pub size-length : (z : ℤ) (n : ℕ) → SFits w64 z → n ≡ natAbs (toZ w64 (ofZ w64 z)) → length (digits n) ≤ 19
-size-length z n fits e = digits-half-room n (omega (arith, size-same z fits, fits-abs w64 z fits))
 
 -- ---- room that is handed on from piece to piece
 
@@ -164,6 +158,6 @@ event-length tag number lines small short few = upTo (length lines) (le-refl (le
         (owner-length tag number n (getD lines n (pos 0)) small (omega arith) (few n (omega arith))) in
         rw (← add-one n) more
 
--- and so does the room of 64 lines
-pub room-of-64 : eventRoom 64 ≡ 4160
-room-of-64 = refl
+-- for a line of each owner it is the code's EVENT_ROOM
+pub room-of-owners : eventRoom owners ≡ 4160
+room-of-owners = refl

@@ -8,7 +8,8 @@ use native.Mathlib.Numerals.{add-one}
 use native.Mathlib.Omega.{arith}
 use lib.ListN.{length, take, drop, set, length-append, length-take, length-drop, take-append-drop}
 use lib.Seq.{take-at, drop-at, drop-drop, set-split}
-use Rattle.statement_text.specs.Buffer.{written, Wrote}
+use Rattle.statement_text.specs.Buffer.{written}
+use Rattle.statement_text.specs.InnerContracts.{Wrote}
 
 -- a buffer keeps its length
 pub written-length : (before : List ℕ) (at : ℕ) (text : List ℕ) → at + length text ≤ length before

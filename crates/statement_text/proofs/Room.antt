@@ -1,4 +1,4 @@
--- What a call answers with and without the room that it asks for, and the room of 64 lines.
+-- What a call answers with and without the room that it asks for.
 -- Assumes nothing.
 use Prim.Native.Nat.{ℕ, _+_, _≤_, _<_}
 use mathlib.Core.Path.{_≡_, sym, ap, _∙_}
@@ -6,7 +6,8 @@ use mathlib.Core.Bool.{Bool, cond}
 use mathlib.Core.List.{List}
 use lib.ListN.{length}
 use borrow.Author.Tests.{le-leb, lt-leb}
-use Rattle.statement_text.specs.Buffer.{written, Wrote, textAfter, endAfter}
+use Rattle.statement_text.specs.Buffer.{written, textAfter, endAfter}
+use Rattle.statement_text.specs.InnerContracts.{Wrote}
 
 module _ (room : ℕ) (text before : List ℕ) (at : ℕ) where
   pub with-room : (after : List ℕ) (end : ℕ) → at + room ≤ length before → Wrote text before at after end

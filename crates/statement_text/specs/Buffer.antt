@@ -1,7 +1,6 @@
 -- Text in a lent buffer: what stands in it after a text is written at a place, and where that text ends.
 -- Assumes nothing.
 use Prim.Native.Nat.{ℕ, _+_}
-use mathlib.Core.Path.{_≡_}
 use mathlib.Core.Bool.{cond}
 use mathlib.Core.List.{List, _++_}
 use lib.Dec.{leb}
@@ -10,11 +9,6 @@ use lib.ListN.{length, take, drop}
 -- the buffer with a text written over it from a place on
 unfoldable pub written : List ℕ → ℕ → List ℕ → List ℕ
 written before at text = take at before ++ (text ++ drop (at + length text) before)
-
--- a text was written at a place, and ends where it is said to end
-pub record Wrote (text before : List ℕ) (at : ℕ) (after : List ℕ) (end : ℕ) : Type 0 where
-  pub ends : end ≡ at + length text
-  pub buffer : after ≡ written before at text
 
 -- a call that asks for so much room behind its place: with that room it writes the text and gives its end; without it the buffer stays
 -- as it was, and the end is the place

@@ -1,3 +1,4 @@
 pub mod Buffer
+pub mod InnerContracts
 pub mod Printed
 pub mod Text

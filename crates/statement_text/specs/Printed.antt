@@ -1,15 +1,16 @@
 -- The printed case, as the definitions give it: its five lines, computed by the prover.
 -- Assumes nothing.
-use Prim.Native.Nat.{ℕ}
+use Prim.Native.Nat.{ℕ, _-_}
 use mathlib.Core.Path.{_≡_, refl}
 use mathlib.Core.List.{List, [], _∷_, _++_}
 use lib.ListN.{replicate}
 use lib.IntN.{ℤ, pos, negsuc}
+use Rattle.numbers.specs.Limits.{owners}
 use Rattle.statement_text.specs.Text.{digitsWithin, digits, signedDigits, lineText, ownerText, ownersText, eventText, fundText}
 
 -- the lines of an hour in which only the first two owners have one; negsuc n is -(n + 1)
 abbrev lines : ℤ → ℤ → List ℤ
-lines first second = first ∷ second ∷ replicate 62 (pos 0)
+lines first second = first ∷ second ∷ replicate (owners - 2) (pos 0)
 
 -- "H 0 0 8500", "H 0 1 -2500", "H 1 0 10000", "H 1 1 -2500", "F 1500 0", in bytes
 unfoldable pub printed : List ℕ

@@ -3,8 +3,8 @@ ghost use mathlib.Core.Path.{_≡_};
 ghost use mathlib.Core.List.{[], _∷_};
 ghost use Prim.Native.Nat.{_+_, _<_, _≤_};
 ghost use lib.ListN.{length};
-ghost use lib.IntN.{natAbs};
-ghost use Rattle.statement_text.specs.Buffer.{Wrote, endAfter, textAfter};
+ghost use Rattle.statement_text.specs.Buffer.{endAfter, textAfter};
+ghost use Rattle.statement_text.specs.InnerContracts.{Wrote};
 ghost use Rattle.statement_text.specs.Text.{digits, eventRoom, eventText, field, fieldRoom, fundText, lineRoom, lineText, ownerText, refusalText, signedDigits, signedField};
 
 // The room that one line asks for, and that an event of 64 lines asks for.
@@ -119,19 +119,9 @@ fn write_signed(number: i64, text: &mut [u8], at: usize) -> usize
 {
     if number < 0 {
         let first = put(45, text, at);
-        return write_number(size(number), text, first);
+        return write_number(numbers::negative_part(number), text, first);
     }
-    write_number(size(number), text, at)
-}
-
-// A number without its sign, for every number.
-fn size(number: i64) -> u64
-    ensures { λ r. ⌜ r ≡ natAbs number ⌝ }
-{
-    if number < 0 {
-        return (-(number + 1)) as u64 + 1;
-    }
-    number as u64
+    write_number(numbers::positive_part(number), text, at)
 }
 
 // The number's decimal digits, the highest first.

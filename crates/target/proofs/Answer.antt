@@ -1,97 +1,106 @@
--- The refusal of a target call: from its early rows, or from the faults of the rights; and the lines after it.
+-- The refusal of a target call, from its first rows to the faults of the rights; and the lines after it.
 -- Assumes nothing.
-use Prim.Native.Nat.{ℕ, _<_}
+use Prim.Native.Nat.{ℕ, _<_, _≤_}
 use mathlib.Core.Path.{_≡_, refl, sym, ap, _∙_}
-use mathlib.Core.Bool.{Bool, true, false, not, _||_}
-use mathlib.Core.List.{List, [], _∷_}
+use mathlib.Core.Bool.{true, false}
+use mathlib.Core.List.{List, [], _++_}
 use native.Mathlib.Omega.{arith}
-use lib.Dec.{leb, eqb}
 use lib.ListN.{length, getD}
 use lib.IntN.{ℤ, pos}
-use borrow.Author.Tests.{eqb-true, not-false}
+use borrow.Author.Tests.{le-leb, lt-leb, eq-eqb, ne-eqb}
+use Rattle.numbers.specs.Limits.{owners}
 use Rattle.numbers.specs.Lists.{listBelow}
-use Rattle.numbers.specs.Refusals.{_if_, firstRefusal}
-use Rattle.numbers.proofs.Refusals.{refusal-none, refusal-clear, refusal-below, refusal-append}
+use Rattle.numbers.specs.Refusals.{firstRefusal}
+use Rattle.numbers.proofs.Refusals.{isWithin, refusal-none, refusal-here, refusal-next, refusal-clear, refusal-append, refusal-rest, answer-accepted}
 use Rattle.numbers.proofs.Counts.{getD-listBelow, listBelow-ext}
-use Rattle.numbers.proofs.Tests.{neither-true}
+use Rattle.numbers.proofs.Booleans.{neither-true}
+use Rattle.numbers.proofs.Signed.{sum-none}
 use Rattle.calendar.specs.Year.{hoursInYear, operatingHour}
 use Rattle.rights.specs.Layout.{isWrongLength}
-use Rattle.rights.specs.Faults.{anyFault, fileRefusal}
-use Rattle.rights.proofs.Faults.{file-0, file-7, file-8}
+use Rattle.rights.specs.Faults.{anyFault, faultRows, fileRefusal}
+use Rattle.rights.proofs.Faults.{file-rows, no-faults, some-faults}
 use Rattle.target.specs.Rounding.{roundTenths}
-use Rattle.target.specs.Target.{owners, isWrongPriceCount, anyWild, earlyRows, targetRefusal, tenths, target, targets}
-use Rattle.target.specs.Pass.{Added}
+use Rattle.target.specs.Target.{isWrongPriceCount, anyWild, lentRows, targetRefusal, tenths, target, targets, targetLines}
+use Rattle.target.specs.InnerContracts.{Added}
+
+module _ (file : List ℕ) (prices : List ℤ) where
+  -- 4 and 5 alone come from the lengths and the prices
+  pub lent-within : isWithin 4 5 (lentRows file prices) ≡ true
+  unfolding lentRows
+  lent-within = refl
+
+  pub lent-accepted : isWrongPriceCount (length prices) ≡ false → isWrongLength (length file) ≡ false → anyWild prices ≡ false
+      → firstRefusal (lentRows file prices) ≡ 0
+  unfolding lentRows
+  lent-accepted priced right calm = refusal-next 4 _ priced ∙ refusal-next 4 _ right ∙ refusal-next 5 _ calm ∙ refusal-none
+
+  -- none comes: the file's length is right and no price is wild, and then the records decide
+  pub lent-clear : firstRefusal (lentRows file prices) ≡ 0 → (isWrongLength (length file) ≡ false) × (anyWild prices ≡ false)
+  unfolding lentRows
+  lent-clear clear =
+      let prices-4 = refusal-clear 4 _ _ (omega arith) clear in
+      let file-4 = refusal-clear 4 (isWrongLength (length file)) _ (omega arith) (prices-4 .1) in
+      (file-4 .0, refusal-clear 5 (anyWild prices) [] (omega arith) (file-4 .1) .0)
+
+  lent-then : firstRefusal (lentRows file prices) ≡ 0
+      → firstRefusal (lentRows file prices ++ faultRows (length prices) file) ≡ firstRefusal (faultRows (length prices) file)
+  lent-then clear = refusal-rest 4 5 (lentRows file prices) (faultRows (length prices) file) (omega arith) lent-within clear
 
 module _ (file : List ℕ) (prices : List ℤ) (hour lines : ℕ) where
-  -- the refusal of the early rows
-  abbrev pub early : ℕ
-  early = firstRefusal (earlyRows file prices hour lines)
-
-  wrong : Bool
-  wrong = not (eqb lines owners) || isWrongPriceCount (length prices) || isWrongLength (length file)
-
-  pub early-small : early < 7
-  unfolding earlyRows
-  early-small =
-      refusal-below 7 3 _ _ (omega arith)
-      (refusal-below 7 4 _ _ (omega arith) (refusal-below 7 5 _ [] (omega arith) (rw refusal-none (omega arith))))
-
-  pub from-early : (early ≡ 0 → ⊥) → early ≡ targetRefusal file prices hour lines
+  pub out-of-year : hoursInYear ≤ hour → targetRefusal file prices hour lines ≡ 3
   unfolding targetRefusal
-  from-early some = sym (refusal-append (earlyRows file prices hour lines) _ some)
+  out-of-year past = refusal-here 3 _ (le-leb hoursInYear hour past)
 
-  module _ (clear : early ≡ 0) where
-    clear-3 : (leb hoursInYear hour ≡ false) × (firstRefusal ((4 if wrong) ∷ (5 if anyWild prices) ∷ []) ≡ 0)
-    unfolding earlyRows wrong
-    clear-3 = refusal-clear 3 (leb hoursInYear hour) _ (omega arith) clear
+  module _ (inside : hour < hoursInYear) where
+    pub wrong-lines : (lines ≡ owners → ⊥) → targetRefusal file prices hour lines ≡ 4
+    unfolding targetRefusal
+    wrong-lines other =
+        refusal-next 3 _ (lt-leb hoursInYear hour inside) ∙ refusal-here 4 _ (rw (ne-eqb lines owners other))
 
-    clear-4 : (wrong ≡ false) × (firstRefusal ((5 if anyWild prices) ∷ []) ≡ 0)
-    clear-4 = refusal-clear 4 wrong _ (omega arith) (clear-3 .1)
+    -- in an hour of the year and with 64 lines, what is lent decides
+    module _ (all : lines ≡ owners) where
+      pub lent-rows : targetRefusal file prices hour lines ≡ firstRefusal (lentRows file prices ++ faultRows (length prices) file)
+      unfolding targetRefusal
+      lent-rows = refusal-next 3 _ (lt-leb hoursInYear hour inside) ∙ refusal-next 4 _ (rw (eq-eqb lines owners all))
 
-    pub clear-5 : anyWild prices ≡ false
-    clear-5 = refusal-clear 5 (anyWild prices) [] (omega arith) (clear-4 .1) .0
+      pub from-lent : (firstRefusal (lentRows file prices) ≡ 0 → ⊥) → firstRefusal (lentRows file prices) ≡ targetRefusal file prices hour lines
+      from-lent some = sym (lent-rows ∙ refusal-append (lentRows file prices) _ some)
 
-    pub clear-length : isWrongLength (length file) ≡ false
-    unfolding wrong
-    clear-length =
-        neither-true (not (eqb lines owners) || isWrongPriceCount (length prices)) (isWrongLength (length file)) (clear-4 .0) .1
+      module _ (clear : firstRefusal (lentRows file prices) ≡ 0) where
+        from-faults : targetRefusal file prices hour lines ≡ firstRefusal (faultRows (length prices) file)
+        from-faults = lent-rows ∙ lent-then file prices clear
 
-    pub clear-lines : lines ≡ owners
-    unfolding wrong
-    clear-lines =
-        eqb-true lines owners
-        (not-false (eqb lines owners)
-        (neither-true (not (eqb lines owners)) (isWrongPriceCount (length prices))
-        (neither-true (not (eqb lines owners) || isWrongPriceCount (length prices)) (isWrongLength (length file)) (clear-4 .0) .0) .0))
+        pub from-file : fileRefusal (length prices) file ≡ targetRefusal file prices hour lines
+        from-file = file-rows (length prices) file (lent-clear file prices clear .0) ∙ sym from-faults
 
-    -- then the faults of the rights decide
-    pub from-file : fileRefusal (length prices) file ≡ targetRefusal file prices hour lines
-    unfolding fileRefusal targetRefusal earlyRows firstRefusal wrong
-    from-file = rw (clear-3 .0, clear-4 .0, clear-5, clear-length)
+        -- a pass that met a fault ends in a refusal, and a clean one does not
+        pub faulty : (sums : List ℤ) → Added file prices (operatingHour hour) sums false → targetRefusal file prices hour lines ≡ 0 → ⊥
+        faulty sums pass none = some-faults (length prices) file (pass .faults) (sym from-faults ∙ none)
 
-    -- a pass that met a fault ends in a refusal, and a clean one does not
-    pub faulty : (sums : List ℤ) → Added file prices (operatingHour hour) sums false → targetRefusal file prices hour lines ≡ 0 → ⊥
-    faulty sums pass none = by-test (anyFault (length prices) file 7) refl
-      where
-        file-none : fileRefusal (length prices) file ≡ 0
-        file-none = from-file ∙ none
+        pub clean : (sums : List ℤ) → Added file prices (operatingHour hour) sums true → targetRefusal file prices hour lines ≡ 0
+        clean sums pass =
+            let none = neither-true (anyFault (length prices) file 7) (anyFault (length prices) file 8) (pass .faults) in
+            from-faults ∙ no-faults (length prices) file (none .0) (none .1)
 
-        by-test : (bad : Bool) → anyFault (length prices) file 7 ≡ bad → ⊥
-        by-test true e = omega (arith, file-none, file-7 (length prices) file clear-length e)
-        by-test false e =
-            omega
-            (arith, file-none, file-8 (length prices) file clear-length e (sym (ap (λ (b : Bool). b || anyFault (length prices) file 8) e) ∙ pass .faults))
+-- the lines after an accepted call are the targets, and a line is its owner's target
+pub writes-targets : (file : List ℕ) (prices : List ℤ) (hour : ℕ) (before : List ℤ) → targetRefusal file prices hour (length before) ≡ 0
+    → targetLines file prices hour before ≡ targets file prices hour
+unfolding targetLines
+writes-targets file prices hour before clear = answer-accepted _ (targets file prices hour) before clear
 
-    pub clean : (sums : List ℤ) → Added file prices (operatingHour hour) sums true → targetRefusal file prices hour lines ≡ 0
-    clean sums pass =
-        sym from-file ∙ sym (file-0 (length prices) file clear-length (none .0) (none .1))
-      where
-        none : (anyFault (length prices) file 7 ≡ false) × (anyFault (length prices) file 8 ≡ false)
-        none = neither-true (anyFault (length prices) file 7) (anyFault (length prices) file 8) (pass .faults)
+pub target-at : (file : List ℕ) (prices : List ℤ) (hour owner : ℕ) → owner < owners
+    → getD (targets file prices hour) owner (pos 0) ≡ target file prices hour owner
+unfolding targets
+target-at file prices hour owner inside = getD-listBelow (target file prices hour) owners (pos 0) owner inside
+
+-- with no rights every target is 0
+pub no-rights : (prices : List ℤ) (hour owner : ℕ) → target [] prices hour owner ≡ pos 0
+unfolding target tenths roundTenths
+no-rights prices hour owner = ap roundTenths (sum-none _)
 
 -- the lines of a clean pass are the targets
 pub pass-targets : (file : List ℕ) (prices : List ℤ) (hour : ℕ) (sums : List ℤ) → Added file prices (operatingHour hour) sums true
-    → listBelow (λ owner. roundTenths (getD sums owner (pos 0))) 64 ≡ targets file prices hour
+    → listBelow (λ owner. roundTenths (getD sums owner (pos 0))) owners ≡ targets file prices hour
 unfolding targets target
 pass-targets file prices hour sums pass =
     listBelow-ext (λ owner. roundTenths (getD sums owner (pos 0))) (target file prices hour) owners

@@ -5,29 +5,31 @@ use mathlib.Core.Path.{_≡_, refl, sym, ap, ap₂, subst, _∙_}
 use mathlib.Core.Bool.{Bool, true, false, cond, not, _||_, or-true, false≢true}
 use mathlib.Core.List.{List}
 use native.Mathlib.Decide.{ℕ-discrete}
-use native.Mathlib.Nat.{le-antisymm, le-refl, lt-of-le-of-lt}
+use native.Mathlib.Nat.{le-antisymm}
 use native.Mathlib.Omega.{arith}
 use lib.Dec.{eqb}
 use lib.ListN.{length, getD, set, replicate, length-set, length-replicate, getD-replicate}
 use lib.Seq.{getD-set-same, getD-set-other}
 use lib.IntN.{ℤ, pos, natAbs, _+ℤ_, +ℤ-idr}
 use borrow.Author.Tests.{eq-eqb, ne-eqb}
+use Rattle.numbers.specs.Limits.{owners}
 use Rattle.numbers.specs.Lists.{anyBelow, listBelow, sumBelow}
-use Rattle.numbers.proofs.Any.{any-none, any-more, any-here}
+use Rattle.numbers.proofs.Any.{any-none, any-more}
 use Rattle.numbers.proofs.Counts.{listBelow-getD, listBelow-ext}
 use Rattle.numbers.proofs.Signed.{abs-add, sum-none, sum-next}
 use Rattle.calendar.specs.declared.OperatingHour.{OperatingHour}
 use Rattle.rights.specs.declared.Right.{Right}
-use Rattle.rights.specs.Layout.{recordCount, rightAt, isGood}
+use Rattle.rights.specs.Layout.{mostSize, recordCount, rightAt, isGood}
 use Rattle.rights.specs.Faults.{faultAt, anyFault, isUnpriced}
+use Rattle.rights.proofs.Faults.{fault-7, fault-8, any-fault-here, no-fault-to}
 use Rattle.rights.proofs.Good.{good-owner}
-use Rattle.target.specs.Target.{owners, anyWild, worth, worthTo, tenths}
-use Rattle.target.specs.Pass.{Added}
+use Rattle.target.specs.Target.{mostPrice, anyWild, worth, worthTo, tenths}
+use Rattle.target.specs.InnerContracts.{Added}
 use Rattle.target.proofs.Worth.{worth-most}
 
 -- the most that one record is worth, in tenths of a cent
 abbrev pub mostWorth : ℕ
-mostWorth = 100_000_000_000
+mostWorth = mostSize * (mostPrice + mostPrice)
 
 module _ (file : List ℕ) (prices : List ℤ) (hour : OperatingHour) where
   -- the records below a number have no fault, and each owner has their sum
@@ -106,46 +108,45 @@ module _ (file : List ℕ) (prices : List ℤ) (hour : OperatingHour) where
     -- one record more, which has no fault
     pub passes : number < recordCount file → anyWild prices ≡ false → isGood right ≡ true → isUnpriced (length prices) right ≡ false
         → Passed moreSums (number + 1)
-    unfolding faultAt
     passes inside no-wild fine priced =
         record {
           within = omega arith;
-          good = any-more _ number (passed .good) (ap (λ (r : Right). not (isGood r)) (sym is) ∙ ap not fine);
-          priced = any-more _ number (passed .priced) (ap (isUnpriced (length prices)) (sym is) ∙ priced);
+          good = any-more _ number (passed .good) (fault-7 (length prices) file number ∙ ap (λ (r : Right). not (isGood r)) (sym is) ∙ ap not fine);
+          priced = any-more _ number (passed .priced) (fault-8 (length prices) file number ∙ ap (isUnpriced (length prices)) (sym is) ∙ priced);
           long = length-set sums (right .owner) (getD sums (right .owner) (pos 0) +ℤ worth prices hour right) ∙ passed .long;
-          each = each-more (lt-of-le-of-lt (good-owner right fine) (le-refl 64));
+          each = each-more (good-owner right fine);
           small = small-more no-wild fine;
         }
 
     -- a record with a fault
     pub stops-bad : number < recordCount file → isGood right ≡ false → (after : List ℤ) → Added file prices hour after false
-    unfolding anyFault faultAt
     stops-bad inside bad after =
         record {
           faults =
               ap (λ (b : Bool). b || anyFault (length prices) file 8)
-              (any-here _ (recordCount file) number inside (ap (λ (r : Right). not (isGood r)) (sym is) ∙ ap not bad));
+              (any-fault-here (length prices) file 7 number inside
+              (fault-7 (length prices) file number ∙ ap (λ (r : Right). not (isGood r)) (sym is) ∙ ap not bad));
           added = λ e. absurd (false≢true e);
         }
 
     pub stops-unpriced : number < recordCount file → isUnpriced (length prices) right ≡ true → (after : List ℤ)
         → Added file prices hour after false
-    unfolding anyFault faultAt
     stops-unpriced inside unpriced after =
         record {
           faults =
               ap (λ (b : Bool). anyFault (length prices) file 7 || b)
-              (any-here _ (recordCount file) number inside (ap (isUnpriced (length prices)) (sym is) ∙ unpriced))
+              (any-fault-here (length prices) file 8 number inside
+              (fault-8 (length prices) file number ∙ ap (isUnpriced (length prices)) (sym is) ∙ unpriced))
               ∙ or-true (anyFault (length prices) file 7);
           added = λ e. absurd (false≢true e);
         }
 
   -- every record is passed
   pub ends : (sums : List ℤ) (number : ℕ) → Passed sums number → recordCount file ≤ number → Added file prices hour sums true
-  unfolding anyFault tenths
+  unfolding tenths
   ends sums number passed past =
       record {
-        faults = ap₂ (λ (a b : Bool). a || b) (at-end (faultAt (length prices) file 7) (passed .good)) (at-end (faultAt (length prices) file 8) (passed .priced));
+        faults = ap₂ (λ (a b : Bool). a || b) (none 7 (passed .good)) (none 8 (passed .priced));
         added =
             λ _.
             sym (listBelow-getD sums (pos 0))
@@ -157,5 +158,6 @@ module _ (file : List ℕ) (prices : List ℤ) (hour : OperatingHour) where
       whole : number ≡ recordCount file
       whole = le-antisymm (passed .within) past
 
-      at-end : (test : ℕ → Bool) → anyBelow test number ≡ false → anyBelow test (recordCount file) ≡ false
-      at-end test e = subst (λ (n : ℕ). anyBelow test n ≡ false) whole e
+      none : (refusal : ℕ) → anyBelow (faultAt (length prices) file refusal) number ≡ false → anyFault (length prices) file refusal ≡ false
+      none refusal e =
+          no-fault-to (length prices) file refusal (subst (λ (n : ℕ). anyBelow (faultAt (length prices) file refusal) n ≡ false) whole e)

@@ -1,3 +1,3 @@
-pub mod Pass
+pub mod InnerContracts
 pub mod Rounding
 pub mod Target

@@ -5,28 +5,28 @@ use mathlib.Core.Bool.{Bool, cond, not, _||_}
 use mathlib.Core.List.{List, [], _∷_, _++_}
 use lib.Dec.{leb, ltb, eqb}
 use lib.ListN.{length, getD}
-use lib.IntN.{ℤ, pos, negsuc, _-ℤ_, _*ℤ_}
+use lib.IntN.{ℤ, pos, negsuc, negℤ, _-ℤ_, _*ℤ_}
 use lib.Signed.{ltZ}
+use Rattle.numbers.specs.Limits.{owners, nodes}
 use Rattle.numbers.specs.Lists.{anyBelow, listBelow, sumBelow}
 use Rattle.numbers.specs.Refusals.{Row, _if_, firstRefusal, answerBy}
 use Rattle.calendar.specs.declared.OperatingHour.{OperatingHour}
 use Rattle.calendar.specs.Year.{hoursInYear, operatingHour}
 use Rattle.rights.specs.declared.Right.{Right}
 use Rattle.rights.specs.Layout.{recordCount, rightAt, isLive, isWrongLength}
-use Rattle.rights.specs.Faults.{anyFault}
+use Rattle.rights.specs.Faults.{faultRows}
 use Rattle.target.specs.Rounding.{roundTenths}
-
--- "64 lines": one for each owner
-abbrev pub owners : ℕ
-owners = 64
 
 -- "cents per megawatt hour, one for each node from node 0"
 abbrev pub priceAt : List ℤ → ℕ → ℤ
 priceAt prices node = getD prices node (pos 0)
 
--- "each from -500,000 to 500,000"; negsuc n is -(n + 1)
+-- "each from -500,000 to 500,000"
+abbrev pub mostPrice : ℕ
+mostPrice = 500_000
+
 abbrev pub isWild : ℤ → Bool
-isWild price = ltZ price (negsuc 499_999) || ltZ (pos 500_000) price
+isWild price = ltZ price (negℤ (pos mostPrice)) || ltZ (pos mostPrice) price
 
 -- "The spread of a right is the price at its sink less the price at its source"
 abbrev pub spread : List ℤ → Right → ℤ
@@ -70,26 +70,27 @@ wildAt prices node = isWild (priceAt prices node)
 unfoldable pub anyWild : List ℤ → Bool
 anyWild prices = anyBelow (wildAt prices) (length prices)
 
--- 4: "lines not 64; prices not 1 to 1,024; rights not a multiple of 16 or above 65,536"
+-- 4: "lines not 64"
+abbrev pub isWrongLines : ℕ → Bool
+isWrongLines lines = not (eqb lines owners)
+
+-- 4: "prices not 1 to 1,024"
 abbrev pub isWrongPriceCount : ℕ → Bool
-isWrongPriceCount prices = eqb prices 0 || ltb 1024 prices
+isWrongPriceCount prices = eqb prices 0 || ltb nodes prices
 
--- the rows that need no look at a record
-unfoldable pub earlyRows : List ℕ → List ℤ → ℕ → ℕ → List Row
-earlyRows file prices hour lines =
-    (3 if leb hoursInYear hour)
-    ∷ (4 if not (eqb lines owners) || isWrongPriceCount (length prices) || isWrongLength (length file))
-    ∷ (5 if anyWild prices)
-    ∷ []
+-- the rows 4 and 5 of every call that is lent rights and prices: "prices not 1 to 1,024; rights not a multiple of 16 or above
+-- 65,536"; "any price outside its range"
+unfoldable pub lentRows : List ℕ → List ℤ → List Row
+lentRows file prices =
+    (4 if isWrongPriceCount (length prices)) ∷ (4 if isWrongLength (length file)) ∷ (5 if anyWild prices) ∷ []
 
--- the refusals of a target call, over the whole input
+-- the refusals of a target call, over the whole input: 3, "an hour number above 8,759"; 4, 5; and 7 and 8, "in any record"
 unfoldable pub targetRefusal : List ℕ → List ℤ → ℕ → ℕ → ℕ
 targetRefusal file prices hour lines =
     firstRefusal
-    (earlyRows file prices hour lines
-    ++ (7 if anyFault (length prices) file 7)
-    ∷ (8 if anyFault (length prices) file 8)
-    ∷ [])
+    ((3 if leb hoursInYear hour)
+    ∷ (4 if isWrongLines lines)
+    ∷ (lentRows file prices ++ faultRows (length prices) file))
 
 -- the lines after a target call
 unfoldable pub targetLines : List ℕ → List ℤ → ℕ → List ℤ → List ℤ

@@ -4,20 +4,21 @@ ghost use mathlib.Core.Bool.{false, true};
 ghost use Prim.Native.Nat.{_+_, _*_, _^_, _≤_, _<_};
 ghost use lib.ListN.{getD, length, replicate};
 ghost use lib.IntN.{natAbs, pos, _+ℤ_, _-ℤ_, _*ℤ_};
+ghost use Rattle.numbers.specs.Limits.{owners};
 ghost use Rattle.numbers.specs.Lists.{listBelow};
 ghost use Rattle.numbers.specs.Refusals.{firstRefusal};
-ghost use Rattle.rights.specs.Layout.{isGood, isWrongLength};
+ghost use Rattle.rights.specs.Layout.{isGood, isWrongLength, mostSize};
 ghost use Rattle.rights.specs.Faults.{isUnpriced, namesFault};
 ghost use Rattle.target.specs.Rounding.{roundTenths};
-ghost use Rattle.target.specs.Pass.{Added};
-ghost use Rattle.target.specs.Target.{anyWild, counted, earlyRows, isWild, isWrongPriceCount, targetLines, targetRefusal, worth};
+ghost use Rattle.target.specs.InnerContracts.{Added};
+ghost use Rattle.target.specs.Target.{anyWild, counted, isWild, isWrongPriceCount, lentRows, mostPrice, targetLines, targetRefusal, worth};
 use calendar::OperatingHour;
-use rights::Fault;
+use numbers::OWNERS;
+use rights::Outcome;
 use rights::Right;
 
-pub const OWNERS: usize = 64;
-
-pub const NODES: usize = 1024;
+// The largest price on either side of zero, in cents per megawatt hour.
+const MOST_PRICE: i32 = 500000;
 
 // Tenths of a cent to cents, halves away from zero, for every number: the remainder's own fifths are 1, 0 or -1.
 pub fn round_tenths(tenths: i64) -> i64
@@ -27,35 +28,45 @@ pub fn round_tenths(tenths: i64) -> i64
 }
 
 // The target call: all 64 targets of an hour, or a refusal that leaves the lines as they were.
-pub fn targets(rights: &[u8], prices: &[i32], hour: u64, lines: &mut [i64]) -> Fault
+pub fn targets(rights: &[u8], prices: &[i32], hour: u64, lines: &mut [i64]) -> Outcome
     ensures { λ r. ⌜ r .refusal ≡ targetRefusal (now (rights .entry)) (now (prices .entry)) hour (length (now (lines .entry))) ⌝ }
     ensures { λ r. ⌜ namesFault (length (now (prices .entry))) (now (rights .entry)) (r .refusal) (r .faulty) ≡ true ⌝ }
     ensures { λ _. ⌜ now (lines .exit) ≡ targetLines (now (rights .entry)) (now (prices .entry)) hour (now (lines .entry)) ⌝ }
 {
-    let refusal = early_refusal(rights, prices, hour, lines.len());
-    if refusal != 0 {
-        return Fault { refusal, faulty: 0 };
+    if calendar::HOURS_IN_YEAR <= hour {
+        return without_record(3);
     }
-    let mut sums = [0i64; 64];
+    if lines.len() != OWNERS {
+        return without_record(4);
+    }
+    let refusal = lent_refusal(rights, prices);
+    if refusal != 0 {
+        return without_record(refusal);
+    }
+    let mut sums = [0i64; OWNERS];
     let clean = add_rights(rights, prices, calendar::operating_hour(hour), &mut sums);
     if !clean {
         return rights::file_fault(rights, prices.len());
     }
     write_targets(&sums, lines);
-    Fault {
-        refusal: 0,
-        faulty: 0,
-    }
+    without_record(0)
 }
 
-// The refusals that need no look at a record: 3, 4 and 5, or 0.
-fn early_refusal(rights: &[u8], prices: &[i32], hour: u64, lines: usize) -> u8
-    ensures { λ r. ⌜ r ≡ firstRefusal (earlyRows (now (rights .entry)) (now (prices .entry)) hour lines) ⌝ }
+// An outcome that names no record.
+fn without_record(refusal: u8) -> Outcome
+    ensures { λ r. ⌜ (r .refusal ≡ refusal) × (r .faulty ≡ 0) ⌝ }
 {
-    if calendar::HOURS_IN_YEAR <= hour {
-        return 3;
+    Outcome { refusal, faulty: 0 }
+}
+
+// What the lengths and the prices call for: 4, 5, or 0.
+fn lent_refusal(rights: &[u8], prices: &[i32]) -> u8
+    ensures { λ r. ⌜ r ≡ firstRefusal (lentRows (now (rights .entry)) (now (prices .entry))) ⌝ }
+{
+    if wrong_price_count(prices.len()) {
+        return 4;
     }
-    if (lines != OWNERS) | wrong_price_count(prices.len()) | rights::wrong_length(rights.len()) {
+    if rights::wrong_length(rights.len()) {
         return 4;
     }
     if any_wild(prices) {
@@ -67,12 +78,12 @@ fn early_refusal(rights: &[u8], prices: &[i32], hour: u64, lines: usize) -> u8
 fn wrong_price_count(prices: usize) -> bool
     ensures { λ r. ⌜ r ≡ isWrongPriceCount prices ⌝ }
 {
-    (prices == 0) | (NODES < prices)
+    (prices == 0) | (numbers::NODES < prices)
 }
 
 // Adds each record's worth to its owner's sum, in one pass. Stops at a record that is bad or unpriced, and then gives false.
-fn add_rights(rights: &[u8], prices: &[i32], hour: OperatingHour, sums: &mut [i64; 64]) -> bool
-    requires { ⌜ (isWrongLength (length (now rights)) ≡ false) × (anyWild (now prices) ≡ false) × (now sums ≡ replicate 64 (pos 0)) ⌝ }
+fn add_rights(rights: &[u8], prices: &[i32], hour: OperatingHour, sums: &mut [i64; OWNERS]) -> bool
+    requires { ⌜ (isWrongLength (length (now rights)) ≡ false) × (anyWild (now prices) ≡ false) × (now sums ≡ replicate owners (pos 0)) ⌝ }
     ensures { λ r. ⌜ Added (now (rights .entry)) (now (prices .entry)) hour (now (sums .exit)) r ⌝ }
 {
     let records = rights.len() / rights::RECORD_BYTES;
@@ -94,9 +105,9 @@ fn add_rights(rights: &[u8], prices: &[i32], hour: OperatingHour, sums: &mut [i6
 }
 
 // Writes each owner's target from its sum.
-fn write_targets(sums: &[i64; 64], lines: &mut [i64])
-    requires { ⌜ (length (now sums) ≡ 64) × (length (now lines) ≡ 64) ⌝ }
-    ensures { λ _. ⌜ now (lines .exit) ≡ listBelow (λ owner. roundTenths (getD (now (sums .entry)) owner (pos 0))) 64 ⌝ }
+fn write_targets(sums: &[i64; OWNERS], lines: &mut [i64])
+    requires { ⌜ (length (now sums) ≡ owners) × (length (now lines) ≡ owners) ⌝ }
+    ensures { λ _. ⌜ now (lines .exit) ≡ listBelow (λ owner. roundTenths (getD (now (sums .entry)) owner (pos 0))) owners ⌝ }
 {
     let mut owner = 0;
     while owner < OWNERS {
@@ -121,7 +132,7 @@ fn any_wild(prices: &[i32]) -> bool
 fn is_wild(price: i32) -> bool
     ensures { λ r. ⌜ r ≡ isWild price ⌝ }
 {
-    (price < -500000) | (500000 < price)
+    (price < -MOST_PRICE) | (MOST_PRICE < price)
 }
 
 // A right's tenths of a cent in an hour; 0 where it is not live.
@@ -159,7 +170,7 @@ fn counted_gain(kind: u8, gain: i64) -> i64
 }
 
 fn times(size: u32, gain: i64) -> i64
-    requires { ⌜ (size ≤ 100000) × (natAbs gain ≤ 1000000) ⌝ }
+    requires { ⌜ (size ≤ mostSize) × (natAbs gain ≤ mostPrice + mostPrice) ⌝ }
     ensures { λ r. ⌜ r ≡ pos size *ℤ gain ⌝ }
 {
     size as i64 * gain

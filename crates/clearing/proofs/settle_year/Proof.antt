@@ -7,7 +7,7 @@ use borrow.Author.Needs.{needs}
 use mathlib.Core.Path.{_≡_, refl, _∙_}
 use lib.ListN.{length}
 use borrow.Author.Tests.{ltb-true}
-use Rattle.numbers.proofs.Tests.{both-true}
+use Rattle.numbers.proofs.Booleans.{both-true}
 use Rattle.clearing.proofs.settle_year.Statement.{statement}
 use Rattle.clearing.proofs.settle_year.Tie as tie
 

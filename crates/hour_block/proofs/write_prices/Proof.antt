@@ -7,9 +7,10 @@ use mathlib.Core.Path.{_≡_, refl, ap, _∙_}
 use lib.ListN.{length, take, length-set}
 use mir.Syntax.{w32}
 use mir.ValLaws.{toZ-ofZ}
+use Rattle.numbers.specs.Limits.{nodes}
 use Rattle.numbers.specs.Lists.{listBelow}
 use Rattle.numbers.proofs.Counts.{filled-more, filled-all}
-use Rattle.hour_block.specs.Block.{nodes, signed, priceIn, pricesIn}
+use Rattle.hour_block.specs.Block.{signed, priceIn, pricesIn}
 use Rattle.hour_block.proofs.write_prices.Statement.{statement}
 use Rattle.hour_block.proofs.write_prices.Tie as tie
 

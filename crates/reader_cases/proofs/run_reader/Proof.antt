@@ -17,8 +17,8 @@ abbrev μ-loop : tie.MeasureT-loop
 loop-holds : tie.Need-loop-holds Inv-loop μ-loop
 loop-holds c = search needs
 
-step-requires : tie.Need-step-requires Inv-loop μ-loop
-step-requires c κs = search needs
+take-at-requires : tie.Need-take-at-requires Inv-loop μ-loop
+take-at-requires c κs = search needs
 
 fold-given-requires : tie.Need-fold-given-requires Inv-loop μ-loop
 fold-given-requires c κs = search needs
@@ -45,7 +45,7 @@ run-reader-spec =
     Inv-loop
     μ-loop
     loop-holds
-    step-requires
+    take-at-requires
     fold-given-requires
     add-number
     loop-less

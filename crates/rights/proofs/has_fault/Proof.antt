@@ -17,7 +17,10 @@ is-unpriced-requires : tie.Need-is-unpriced-requires
 is-unpriced-requires c κs = search needs
 
 returns-2 : tie.Need-returns-2
-returns-2 c = rw (ne-eqb _ _ (c .before .if1 .left)) (c .is-unpriced .ensures)
+returns-2 c = rw (ne-eqb _ _ (c .before .before .if1 .left), eq-eqb _ _ (c .before .if2 .taken)) (c .is-unpriced .ensures)
+
+returns-3 : tie.Need-returns-3
+returns-3 c = rw (ne-eqb _ _ (c .before .if1 .left), ne-eqb _ _ (c .if2 .left))
 
 pub has-fault-spec : {M : Type 1} → statement M
-has-fault-spec = tie.close (tie.spec is-good-requires returns is-unpriced-requires returns-2)
+has-fault-spec = tie.close (tie.spec is-good-requires returns is-unpriced-requires returns-2 returns-3)

@@ -10,14 +10,14 @@ use lib.ListN.{length, getD, take, set, length-set}
 use lib.Seq.{getD-set-other}
 use Rattle.numbers.specs.Lists.{listBelow}
 use Rattle.numbers.proofs.Counts.{one-if-mono, filled-more, filled-all}
-use Rattle.split.specs.Parts.{placeOf, withOddCent}
+use Rattle.split.specs.InnerContracts.{placeOf, withOddCent}
 use Rattle.split.proofs.pay_odd_cents.Statement.{statement}
 use Rattle.split.proofs.pay_odd_cents.Tie as tie
 
-record Given (rests before paid : List ℕ) (unpaid i : ℕ) : Type 0 where
+record Given (remainders before paid : List ℕ) (unpaid i : ℕ) : Type 0 where
   within : i ≤ length before
   as-long : length paid ≡ length before
-  given : take i paid ≡ listBelow (withOddCent rests unpaid before) i
+  given : take i paid ≡ listBelow (withOddCent remainders unpaid before) i
   ahead : (k : ℕ) → i ≤ k → getD paid k 0 ≡ getD before k 0
 
 -- an odd cent is at most one
@@ -25,25 +25,25 @@ cent-small : (place unpaid cent : ℕ) → cent ≡ cond (ltb place unpaid) 1 0 
 cent-small place unpaid cent e = omega (arith, one-if-mono (ltb place unpaid) true (λ _. refl))
 
 -- one payment more
-given-step : {rests before paid : List ℕ} {unpaid i : ℕ} (place cent : ℕ) → i < length before → Given rests before paid unpaid i
-    → place ≡ placeOf rests (length before) i → cent ≡ cond (ltb place unpaid) 1 0
-    → Given rests before (set paid i (getD paid i 0 + cent)) unpaid (i + 1)
+given-step : {remainders before paid : List ℕ} {unpaid i : ℕ} (place cent : ℕ) → i < length before → Given remainders before paid unpaid i
+    → place ≡ placeOf remainders (length before) i → cent ≡ cond (ltb place unpaid) 1 0
+    → Given remainders before (set paid i (getD paid i 0 + cent)) unpaid (i + 1)
 unfolding withOddCent
-given-step {rests} {before} {paid} {unpaid} {i} place cent l g at-place is-cent =
+given-step {remainders} {before} {paid} {unpaid} {i} place cent l g at-place is-cent =
     let same = g .ahead i (omega arith) in
     let odd = is-cent ∙ ap (λ (p : ℕ). cond (ltb p unpaid) 1 0) at-place in
     record {
       within = omega arith;
       as-long = simp length-set (g .as-long);
-      given = filled-more (withOddCent rests unpaid before) paid i (getD paid i 0 + cent) (omega arith) (omega arith) (g .given);
+      given = filled-more (withOddCent remainders unpaid before) paid i (getD paid i 0 + cent) (omega arith) (omega arith) (g .given);
       ahead = λ k m. getD-set-other paid i k (getD paid i 0 + cent) 0 (omega arith) ∙ g .ahead k (omega arith);
     }
 
 abbrev Inv-loop : tie.InvT-loop
-Inv-loop rests unpaid payments₀ owners i₀ payments i = Given rests payments₀ payments unpaid i
+Inv-loop remainders unpaid payments₀ owners i₀ payments i = Given remainders payments₀ payments unpaid i
 
 abbrev μ-loop : tie.MeasureT-loop
-μ-loop rests unpaid payments₀ owners i₀ payments i = length payments₀ - i
+μ-loop remainders unpaid payments₀ owners i₀ payments i = length payments₀ - i
 
 loop-holds : tie.Need-loop-holds Inv-loop μ-loop
 loop-holds c = record { within = omega arith; as-long = refl; given = unfold listBelow in refl; ahead = λ k l. refl }
@@ -96,7 +96,7 @@ returns c =
     let s = c .before in
     let a = s .before .before .before .args in
     filled-all
-    (withOddCent (a .rests .now) (a .unpaid) (a .payments .now))
+    (withOddCent (a .remainders .now) (a .unpaid) (a .payments .now))
     (s .loop .payments)
     (s .loop .i)
     (length (a .payments .now))

@@ -9,9 +9,10 @@ use native.Mathlib.Omega.{arith}
 use lib.Dec.{ltb}
 use lib.ListN.{length, getD}
 use borrow.Author.Tests.{le-ltb}
+use Rattle.numbers.specs.Limits.{mostCents}
 use Rattle.numbers.specs.Lists.{countBelow, listBelow}
 use Rattle.numbers.proofs.Counts.{count-ext, length-listBelow, getD-listBelow, getD-beyond, listBelow-ext, getD-le-total}
-use Rattle.split.specs.Parts.{aheadBy, placeOf, withOddCent, Short, WholePaid}
+use Rattle.split.specs.InnerContracts.{aheadBy, placeOf, withOddCent, Short, WholePaid}
 use Rattle.split.specs.Split.{wholePart, unpaidCents, isAhead, getsOddCent, payment, standsAhead}
 use Rattle.split.proofs.Order.{below-or-not}
 use Rattle.split.proofs.Shares.{whole-le-want}
@@ -20,9 +21,9 @@ use borrow.Author.Needs.{needs}
 use Rattle.split.proofs.pay_shares.Statement.{statement}
 use Rattle.split.proofs.pay_shares.Tie as tie
 
-module _ {fund sum : ℕ} {wants places paid rests : List ℕ} {unpaid : ℕ} (case : Short fund sum wants places) (done : WholePaid fund wants paid rests unpaid) where
+module _ {fund sum : ℕ} {wants places paid remainders : List ℕ} {unpaid : ℕ} (case : Short fund sum wants places) (done : WholePaid fund wants paid remainders unpaid) where
   -- a whole part is no more than the sum of the wants
-  whole-small : (k : ℕ) → getD paid k 0 ≤ 4_000_000_000
+  whole-small : (k : ℕ) → getD paid k 0 ≤ mostCents
   whole-small k =
       let here = ap (λ (l : List ℕ). getD l k 0) (done .whole) in
       ⊎-elim
@@ -34,30 +35,30 @@ module _ {fund sum : ℕ} {wants places paid rests : List ℕ} {unpaid : ℕ} (c
   paid-length = ap length (done .whole) ∙ length-listBelow (wholePart fund wants) (length wants)
 
   -- the place by the kept remainders is the rule's
-  place-is : (i : ℕ) → i < length wants → placeOf rests (length paid) i ≡ countBelow (isAhead fund wants i) (length wants)
+  place-is : (i : ℕ) → i < length wants → placeOf remainders (length paid) i ≡ countBelow (isAhead fund wants i) (length wants)
   unfolding placeOf isAhead
   place-is i l =
-      ap (λ (m : ℕ). countBelow (aheadBy (λ k. getD rests k 0) i) m) paid-length
+      ap (λ (m : ℕ). countBelow (aheadBy (λ k. getD remainders k 0) i) m) paid-length
       ∙ count-ext
-      (aheadBy (λ k. getD rests k 0) i)
+      (aheadBy (λ k. getD remainders k 0) i)
       (isAhead fund wants i)
       (length wants)
-      (λ j m. ap₂ (λ (x y : ℕ). standsAhead x i y j) (done .rest i l) (done .rest j m))
+      (λ j m. ap₂ (λ (x y : ℕ). standsAhead x i y j) (done .remains i l) (done .remains j m))
 
-  odd-is : (i : ℕ) → i < length wants → ltb (placeOf rests (length paid) i) unpaid ≡ getsOddCent fund wants i
+  odd-is : (i : ℕ) → i < length wants → ltb (placeOf remainders (length paid) i) unpaid ≡ getsOddCent fund wants i
   unfolding getsOddCent
   odd-is i l = ap₂ (λ (p e : ℕ). ltb p e) (place-is i l) (done .cents)
 
   -- with as many odd cents as are unpaid, the rule's payments
-  with-odd-cents : (cents : ℕ) (after : List ℕ) → after ≡ listBelow (withOddCent rests cents paid) (length paid)
+  with-odd-cents : (cents : ℕ) (after : List ℕ) → after ≡ listBelow (withOddCent remainders cents paid) (length paid)
       → cents ≡ unpaid → after ≡ listBelow (payment fund wants) (length wants)
   unfolding withOddCent
   with-odd-cents cents after given e =
       given
-      ∙ ap₂ (λ (n m : ℕ). listBelow (withOddCent rests n paid) m) e paid-length
-      ∙ listBelow-ext (withOddCent rests unpaid paid) (payment fund wants) (length wants) at
+      ∙ ap₂ (λ (n m : ℕ). listBelow (withOddCent remainders n paid) m) e paid-length
+      ∙ listBelow-ext (withOddCent remainders unpaid paid) (payment fund wants) (length wants) at
     where
-      at : (i : ℕ) → i < length wants → withOddCent rests unpaid paid i ≡ payment fund wants i
+      at : (i : ℕ) → i < length wants → withOddCent remainders unpaid paid i ≡ payment fund wants i
       at i l =
           let here = ap (λ (ps : List ℕ). getD ps i 0) (done .whole) ∙ getD-listBelow (wholePart fund wants) (length wants) 0 i l in
           ap₂ (λ (w : ℕ) (t : Bool). w + cond t 1 0) here (odd-is i l) ∙ sym (paid-short fund wants (omega arith) i)

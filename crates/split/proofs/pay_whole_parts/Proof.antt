@@ -7,9 +7,10 @@ use mathlib.Core.Path.{_≡_, refl, ap}
 use native.Mathlib.Nat.{mul-div-le, mul-le-mul, lt-of-le-of-lt}
 use native.Mathlib.Omega.{arith}
 use lib.ListN.{length, getD, take, set, length-set}
+use Rattle.numbers.specs.Limits.{mostCents}
 use Rattle.numbers.specs.Lists.{total, listBelow}
 use Rattle.numbers.proofs.Counts.{getD-filled, filled-more, filled-all, total-next, total-longer, getD-le-total}
-use Rattle.split.specs.Parts.{Short, WholePaid}
+use Rattle.split.specs.InnerContracts.{Short, WholePaid}
 use Rattle.split.specs.Split.{wholePart, remainder}
 use Rattle.split.proofs.Shares.{whole-and-unpaid}
 use Rattle.split.proofs.pay_whole_parts.Statement.{statement}
@@ -21,13 +22,13 @@ module _ (fund sum : ℕ) (wants : List ℕ) (i : ℕ) (is-sum : sum ≡ total w
   unfolding wholePart
   whole-is = ap (λ (d : ℕ). fund * getD wants i 0 / d) is-sum
 
-  rest-is : fund * getD wants i 0 - sum * (fund * getD wants i 0 / sum) ≡ remainder fund wants i
+  remainder-is : fund * getD wants i 0 - sum * (fund * getD wants i 0 / sum) ≡ remainder fund wants i
   unfolding wholePart remainder
-  rest-is = ap (λ (d : ℕ). fund * getD wants i 0 - d * (fund * getD wants i 0 / d)) is-sum
+  remainder-is = ap (λ (d : ℕ). fund * getD wants i 0 - d * (fund * getD wants i 0 / d)) is-sum
 
   -- a fund below the sum times a want fits 64 bits
-  share-fits : fund < sum → sum ≤ 4_000_000_000 → fund * getD wants i 0 ≤ 4_000_000_000 * 4_000_000_000
-  share-fits short within = mul-le-mul {n₂ = 4_000_000_000} {m₂ = 4_000_000_000} (omega arith) (omega (arith, getD-le-total wants i))
+  share-fits : fund < sum → sum ≤ mostCents → fund * getD wants i 0 ≤ mostCents * mostCents
+  share-fits short within = mul-le-mul {n₂ = mostCents} {m₂ = mostCents} (omega arith) (omega (arith, getD-le-total wants i))
 
   -- the next whole part is no more than what is unpaid
   whole-le : fund < sum → i < length wants → (unpaid : ℕ) → unpaid + total (listBelow (wholePart fund wants) i) ≡ fund
@@ -40,18 +41,18 @@ module _ (fund sum : ℕ) (wants : List ℕ) (i : ℕ) (is-sum : sum ≡ total w
         whole-and-unpaid fund wants (omega arith),
       )
 
-record Filled (fund : ℕ) (wants before kept paid rests : List ℕ) (unpaid i : ℕ) : Type 0 where
+record Filled (fund : ℕ) (wants before kept paid remainders : List ℕ) (unpaid i : ℕ) : Type 0 where
   within : i ≤ length wants
   as-long : length paid ≡ length before
-  as-kept : length rests ≡ length kept
+  as-kept : length remainders ≡ length kept
   whole : take i paid ≡ listBelow (wholePart fund wants) i
-  rest : take i rests ≡ listBelow (remainder fund wants) i
+  remains : take i remainders ≡ listBelow (remainder fund wants) i
   cents : unpaid + total (listBelow (wholePart fund wants) i) ≡ fund
 
-module _ {fund sum : ℕ} {wants before kept paid rests : List ℕ} {unpaid i : ℕ} (case : Short fund sum wants before) (places : length wants ≤ length kept) (filled : Filled fund wants before kept paid rests unpaid i) where
+module _ {fund sum : ℕ} {wants before kept paid remainders : List ℕ} {unpaid i : ℕ} (case : Short fund sum wants before) (places : length wants ≤ length kept) (filled : Filled fund wants before kept paid remainders unpaid i) where
   -- one owner more
   filled-step : i < length wants
-      → Filled fund wants before kept (set paid i (fund * getD wants i 0 / sum)) (set rests i (fund * getD wants i 0 - sum * (fund * getD wants i 0 / sum))) (unpaid - fund * getD wants i 0 / sum) (i + 1)
+      → Filled fund wants before kept (set paid i (fund * getD wants i 0 / sum)) (set remainders i (fund * getD wants i 0 - sum * (fund * getD wants i 0 / sum))) (unpaid - fund * getD wants i 0 / sum) (i + 1)
   filled-step l =
       let whole = whole-is fund sum wants i (case .is-sum) in
       let le = whole-le fund sum wants i (case .is-sum) (case .short) l unpaid (filled .cents) in
@@ -60,28 +61,28 @@ module _ {fund sum : ℕ} {wants before kept paid rests : List ℕ} {unpaid i : 
         as-long = simp length-set (filled .as-long);
         as-kept = simp length-set (filled .as-kept);
         whole = filled-more (wholePart fund wants) paid i _ (omega arith) whole (filled .whole);
-        rest = filled-more (remainder fund wants) rests i _ (omega arith) (rest-is fund sum wants i (case .is-sum)) (filled .rest);
+        remains = filled-more (remainder fund wants) remainders i _ (omega arith) (remainder-is fund sum wants i (case .is-sum)) (filled .remains);
         cents = omega (arith, total-next (wholePart fund wants) i);
       }
 
   -- all owners passed
-  filled-ends : length wants ≤ i → WholePaid fund wants paid rests unpaid
+  filled-ends : length wants ≤ i → WholePaid fund wants paid remainders unpaid
   filled-ends l =
       let e : i ≡ length wants = omega arith in
       record {
         whole = filled-all (wholePart fund wants) paid i (length wants) (omega arith) e (filled .whole);
-        rest = λ k m. getD-filled (remainder fund wants) rests i 0 (filled .rest) k (omega arith);
+        remains = λ k m. getD-filled (remainder fund wants) remainders i 0 (filled .remains) k (omega arith);
         cents = let same = ap (λ (m : ℕ). total (listBelow (wholePart fund wants) m)) e in omega (arith, whole-and-unpaid fund wants (omega arith));
       }
 
 abbrev Inv-loop : tie.InvT-loop
-Inv-loop fund sum wants payments₀ rests₀ unpaid₀ i₀ payments rests unpaid i = Filled fund wants payments₀ rests₀ payments rests unpaid i
+Inv-loop fund sum wants payments₀ remainders₀ unpaid₀ i₀ payments remainders unpaid i = Filled fund wants payments₀ remainders₀ payments remainders unpaid i
 
 abbrev μ-loop : tie.MeasureT-loop
-μ-loop fund sum wants payments₀ rests₀ unpaid₀ i₀ payments rests unpaid i = length wants - i
+μ-loop fund sum wants payments₀ remainders₀ unpaid₀ i₀ payments remainders unpaid i = length wants - i
 
 loop-holds : tie.Need-loop-holds Inv-loop μ-loop
-loop-holds c = record { within = omega arith; as-long = refl; as-kept = refl; whole = unfold listBelow in refl; rest = unfold listBelow in refl; cents = unfold listBelow total in omega arith }
+loop-holds c = record { within = omega arith; as-long = refl; as-kept = refl; whole = unfold listBelow in refl; remains = unfold listBelow in refl; cents = unfold listBelow total in omega arith }
 
 mul-share : tie.Need-mul-share Inv-loop μ-loop
 mul-share c = omega arith
@@ -105,22 +106,22 @@ mul-payments c = omega arith
 slice-write-payments : tie.Need-slice-write-payments Inv-loop μ-loop
 slice-write-payments c = omega arith
 
-mul-rests : tie.Need-mul-rests Inv-loop μ-loop
-mul-rests c =
+mul-remainders : tie.Need-mul-remainders Inv-loop μ-loop
+mul-remainders c =
     let s = c .before .before in
     let a = s .before .args in
     let pre = s .before .pre .0 in
     let fits = share-fits (a .fund) (a .sum) (a .wants .now) (s .loop .i) (pre .is-sum) (pre .short) (pre .within) in
     record { fits = lt-of-le-of-lt (mul-div-le _ _) (omega arith) }
 
-sub-rests : tie.Need-sub-rests Inv-loop μ-loop
-sub-rests c = mul-div-le _ _
+sub-remainders : tie.Need-sub-remainders Inv-loop μ-loop
+sub-remainders c = mul-div-le _ _
 
-mul-rests-2 : tie.Need-mul-rests-2 Inv-loop μ-loop
-mul-rests-2 c = omega arith
+mul-remainders-2 : tie.Need-mul-remainders-2 Inv-loop μ-loop
+mul-remainders-2 c = omega arith
 
-slice-write-rests : tie.Need-slice-write-rests Inv-loop μ-loop
-slice-write-rests c = omega arith
+slice-write-remainders : tie.Need-slice-write-remainders Inv-loop μ-loop
+slice-write-remainders c = omega arith
 
 sub-unpaid : tie.Need-sub-unpaid Inv-loop μ-loop
 sub-unpaid c =
@@ -161,10 +162,10 @@ pay-whole-parts-spec =
     div-whole
     mul-payments
     slice-write-payments
-    mul-rests
-    sub-rests
-    mul-rests-2
-    slice-write-rests
+    mul-remainders
+    sub-remainders
+    mul-remainders-2
+    slice-write-remainders
     sub-unpaid
     add-i
     loop-less

@@ -1,44 +1,19 @@
 -- `split::split` meets its contract, case by case of the refusal table.
 -- Assumes nothing.
 use Prim.Native.Nat.{ℕ, _-_, _≤_, _<_}
-use mathlib.Core.Bool.{Bool, true, false, cond, not, _||_}
 use mathlib.Core.List.{List}
-use mathlib.Core.Path.{_≡_, refl, sym, ap, ap₂, _∙_}
+use mathlib.Core.Path.{_≡_, refl, sym, ap, _∙_}
 use native.Mathlib.Omega.{arith}
-use lib.Dec.{ltb, eqb}
 use lib.ListN.{length}
-use borrow.Author.Tests.{lt-ltb, le-ltb, eq-eqb, ne-eqb}
 use Rattle.numbers.specs.Lists.{total, listBelow}
-use Rattle.numbers.specs.Refusals.{firstRefusal, answerBy}
+use Rattle.numbers.specs.Refusals.{answerBy}
 use Rattle.split.specs.declared.Allocation.{Allocation}
 use Rattle.split.specs.Split.{payment, payments, left, splitRefusal, allocation, paymentsAfter}
+use Rattle.split.proofs.Answers.{unequal, too-many, too-large, accepted}
 use Rattle.split.proofs.Laws.{closes-enough, nothing-left}
 use borrow.Author.Needs.{needs}
 use Rattle.split.proofs.split.Statement.{statement}
 use Rattle.split.proofs.split.Tie as tie
-
-module _ (wants : List ℕ) (places : ℕ) where
-  -- the table, by the values of its two tests
-  refusal-by : (t u : Bool) → (not (eqb (length wants) places) || ltb 64 (length wants)) ≡ t
-      → ltb 4_000_000_000 (total wants) ≡ u → splitRefusal wants places ≡ cond t 4 (cond u 11 0)
-  unfolding splitRefusal firstRefusal
-  refusal-by t u e f = ap₂ (λ (a b : Bool). cond {A = ℕ} a 4 (cond b 11 0)) e f
-
-  unequal : (length wants ≡ places → ⊥) → splitRefusal wants places ≡ 4
-  unequal h = refusal-by true (ltb 4_000_000_000 (total wants)) (ap (λ (t : Bool). not t || ltb 64 (length wants)) (ne-eqb (length wants) places h)) refl
-
-  module _ (equal : length wants ≡ places) where
-    by-owners : (t : Bool) → ltb 64 (length wants) ≡ t → (not (eqb (length wants) places) || ltb 64 (length wants)) ≡ t
-    by-owners t e = ap (λ (s : Bool). not s || ltb 64 (length wants)) (eq-eqb (length wants) places equal) ∙ e
-
-    too-many : 64 < length wants → splitRefusal wants places ≡ 4
-    too-many h = refusal-by true (ltb 4_000_000_000 (total wants)) (by-owners true (lt-ltb 64 (length wants) h)) refl
-
-    too-large : length wants ≤ 64 → 4_000_000_000 < total wants → splitRefusal wants places ≡ 11
-    too-large h m = refusal-by false true (by-owners false (le-ltb 64 (length wants) h)) (lt-ltb 4_000_000_000 (total wants) m)
-
-    accepted : length wants ≤ 64 → total wants ≤ 4_000_000_000 → splitRefusal wants places ≡ 0
-    accepted h m = refusal-by false false (by-owners false (le-ltb 64 (length wants) h)) (le-ltb 4_000_000_000 (total wants) m)
 
 -- what the call has to show, by the refusal number: its answer, and what stands in the payments after it
 module _ (fund : ℕ) (wants before : List ℕ) (answer : Allocation) (after : List ℕ) where
@@ -57,8 +32,8 @@ module _ (fund : ℕ) (wants before : List ℕ) (answer : Allocation) (after : L
       → answer ≡ record { refusal = 0; left = fund - total wants } → after ≡ wants
       → (answer ≡ allocation fund wants (length before)) × (after ≡ paymentsAfter fund wants before)
   paid-in-full e enough given paid =
-      let rest : fund - total wants ≡ left fund wants = omega (arith, closes-enough fund wants enough .1) in
-      by-number 0 e (given ∙ ap (λ (l : ℕ). record { refusal = 0; left = l }) rest) (paid ∙ sym (closes-enough fund wants enough .0))
+      let remainder : fund - total wants ≡ left fund wants = omega (arith, closes-enough fund wants enough .1) in
+      by-number 0 e (given ∙ ap (λ (l : ℕ). record { refusal = 0; left = l }) remainder) (paid ∙ sym (closes-enough fund wants enough .0))
 
   -- nothing is refused, and the fund is short
   paid-shares : splitRefusal wants (length before) ≡ 0 → fund < total wants → answer ≡ record { refusal = 0; left = 0 }
@@ -80,8 +55,11 @@ refused-requires-2 c κs = search needs
 returns-2 : tie.Need-returns-2
 returns-2 c = by-number _ _ _ _ _ 4 (too-many _ _ (omega arith) (omega arith)) (c .refused2 .ensures) refl
 
-wanted-requires : tie.Need-wanted-requires
-wanted-requires c κs = search needs
+add-capped-total : tie.Need-add-capped-total
+add-capped-total c = search needs
+
+capped-total-requires : tie.Need-capped-total-requires
+capped-total-requires c κs = search needs
 
 refused-requires-3 : tie.Need-refused-requires-3
 refused-requires-3 c κs = search needs
@@ -135,7 +113,8 @@ split-spec =
     returns
     refused-requires-2
     returns-2
-    wanted-requires
+    add-capped-total
+    capped-total-requires
     refused-requires-3
     returns-3
     pay-in-full-requires

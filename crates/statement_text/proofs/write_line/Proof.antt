@@ -3,7 +3,7 @@
 use Prim.Native.Nat.{_+_, _≤_}
 use mathlib.Core.Path.{ap}
 use lib.ListN.{length}
-use Rattle.statement_text.specs.Buffer.{Wrote}
+use Rattle.statement_text.specs.InnerContracts.{Wrote}
 use native.Mathlib.Nat.{le-refl}
 use mir.Syntax.{w64}
 use mir.ValLaws.{toZ-ofZ}

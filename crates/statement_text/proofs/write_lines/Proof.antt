@@ -13,7 +13,7 @@ use Rattle.numbers.proofs.Signed.{fits-abs}
 use lib.ListN.{length, getD}
 use lib.IntN.{pos}
 use Rattle.statement_text.specs.Text.{lineRoom, ownerText, ownersText, eventText}
-use Rattle.statement_text.specs.Buffer.{Wrote}
+use Rattle.statement_text.specs.InnerContracts.{Wrote}
 use Rattle.statement_text.proofs.Lines.{owners-none, owners-more, owner-length, wrote-owner}
 use Rattle.statement_text.proofs.Pieces.{wrote-nothing, wrote-as}
 use Rattle.statement_text.proofs.write_lines.Statement.{statement}

@@ -10,10 +10,11 @@ use mir.Syntax.{w64}
 use mir.Val.{toZ, ofZ}
 use mir.ValLaws.{toZ-ofZ}
 use borrow.Author.Needs.{needs}
+use Rattle.numbers.specs.Limits.{owners}
 use Rattle.rights.specs.declared.Reading.{Reading}
 use Rattle.rights.specs.Layout.{recordCount, rightAt, isGood, reading}
 use Rattle.rights.specs.Faults.{isUnpriced}
-use Rattle.rights.proofs.Given.{records-most, accepted-good, accepted-right, refused-bad}
+use Rattle.rights.proofs.Readings.{records-most, accepted-good, accepted-right, refused-bad}
 use Rattle.rights.proofs.Good.{good-owner}
 use Rattle.target.specs.Target.{worth}
 use Rattle.target.proofs.Worth.{worth-most}
@@ -46,8 +47,8 @@ right-priced : (c : tie.Else2 Inv-loop μ-loop)
     → isUnpriced (length (c .before .before .before .before .before .before .before .before .before .args .prices .now)) (c .before .before .before .before .before .read .result .right) ≡ false
 right-priced c = sym (c .before .is-unpriced .ensures) ∙ c .if2 .left
 
--- an owner's number is below 64
-own : (c : tie.Else1 Inv-loop μ-loop) → c .before .before .read .result .right .owner < 64
+-- an owner's number is one of the owners
+own : (c : tie.Else1 Inv-loop μ-loop) → c .before .before .read .result .right .owner < owners
 own c = omega (arith, good-owner (c .before .before .read .result .right) (right-good c))
 
 -- the numbers read back from their bits

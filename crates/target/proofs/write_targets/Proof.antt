@@ -9,6 +9,7 @@ use lib.IntN.{ℤ, pos}
 use mir.Syntax.{w64}
 use mir.ValLaws.{toZ-ofZ}
 use borrow.Author.Needs.{needs}
+use Rattle.numbers.specs.Limits.{owners}
 use Rattle.numbers.specs.Lists.{listBelow}
 use Rattle.numbers.proofs.Counts.{filled-more, filled-all}
 use Rattle.target.specs.Rounding.{roundTenths}
@@ -21,10 +22,10 @@ rounded sums owner = roundTenths (getD sums owner (pos 0))
 
 abbrev Inv-loop : tie.InvT-loop
 Inv-loop sums lines₀ owner₀ lines owner =
-    (owner ≤ 64) × (length lines ≡ 64) × (take owner lines ≡ listBelow (rounded sums) owner)
+    (owner ≤ owners) × (length lines ≡ owners) × (take owner lines ≡ listBelow (rounded sums) owner)
 
 abbrev μ-loop : tie.MeasureT-loop
-μ-loop sums lines₀ owner₀ lines owner = 64 - owner
+μ-loop sums lines₀ owner₀ lines owner = owners - owner
 
 loop-holds : tie.Need-loop-holds Inv-loop μ-loop
 unfolding listBelow
@@ -66,7 +67,7 @@ same-length : tie.Need-same-length Inv-loop μ-loop
 same-length c = omega arith
 
 returns : tie.Need-returns Inv-loop μ-loop
-returns c = filled-all _ _ _ 64 (omega arith) (omega arith) (c .before .loop .inv .2)
+returns c = filled-all _ _ _ owners (omega arith) (omega arith) (c .before .loop .inv .2)
 
 pub write-targets-spec : {M : Type 1} → statement M
 write-targets-spec =

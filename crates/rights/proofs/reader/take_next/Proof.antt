@@ -1,5 +1,5 @@
--- `rights::reader::take_next` meets its contract: a walk of its MIR, by hand. The struct is taken apart, `take_at` is called on the slice and the number, and the result is made of what it gives and the slice. All that the proof knows of `take_at` is that it meets its contract.
--- The struct is Copy: what it owns is had twice, and one copy is kept whole for the exit. Of the other, what file owns is had twice again: once for the callee, beside the lifetime's token, which comes back, and once inside the result.
+-- `rights::reader::take_next` meets its contract: a walk of its MIR, by hand. The struct is taken apart, `take_at` is called on the slice and the number, a `Reader` is made in a local of the slice and the number that it gives, and the result of what is given and that reader. All that the proof knows of `take_at` is that it meets its contract.
+-- The struct is Copy: what it owns is had twice, and one copy is kept whole for the exit. Of the other, what file owns is had twice again: once for the callee, beside the lifetime's token, which comes back, and once inside the reader handed back.
 -- Assumes nothing.
 use mathlib.Core.Path.{_≡_, refl, ap}
 use mathlib.Core.List.{[], _∷_}
@@ -43,16 +43,16 @@ use denote.Triple.Table.{entered, cited}
 use denote.Triple.Walked.{says, Stays, stay-none, walkOf, goes-none, Walks, ends-at, walked, walk-meets}
 use denote.Exit.{yes}
 use denote.Triple.Clauses.{ensured, lasts}
-use Rattle.rights.specs.Reader.{takenAt}
+use Rattle.rights.specs.Reader.{IsStep}
 use Rattle.rights.specs.declared.reader.Reader.{Reader}
-use Rattle.rights.specs.declared.reader.Taken.{Taken}
-use Rattle.rights.specs.declared.reader.Took.{Took}
+use Rattle.rights.specs.declared.reader.Step.{Step}
+use Rattle.rights.specs.declared.reader.ReaderStep.{ReaderStep}
 use Rattle.rights.proofs.reader.Reader as T
 use Rattle.rights.proofs.reader.Reader.Laws as T′
-use Rattle.rights.proofs.reader.Taken as K
-use Rattle.rights.proofs.reader.Taken.Laws as K′
-use Rattle.rights.proofs.reader.Took as O
-use Rattle.rights.proofs.reader.Took.Laws as O′
+use Rattle.rights.proofs.reader.Step as K
+use Rattle.rights.proofs.reader.Step.Laws as K′
+use Rattle.rights.proofs.reader.ReaderStep as O
+use Rattle.rights.proofs.reader.ReaderStep.Laws as O′
 use Rattle.rights.proofs.reader.Given as G
 use Rattle.rights.proofs.reader.Given.Laws as G′
 use Rattle.rights.proofs.reader.take_at as take-at
@@ -84,8 +84,9 @@ module _ {M : Type 1} (𝓤 : URA M) (H : Heap 𝓤) (A : Atoms 𝓤) (W : Given
   abbrev v : Val
   v = sliceVal (d .file .ptr) (length (d .file .now))
 
-  abbrev found : Taken
-  found = takenAt (now (d .file)) (d .next)
+  -- what is known of the callee's result
+  abbrev Said : Step → Type 0
+  Said t = IsStep (now (d .file)) (d .next) (t .given) (t .next)
 
   abbrev Post : Val → SProp 𝓤
   Post = walkOf 𝓤 H A take-next.ended stayed (take-next.clauses 𝓤 H A mem run) .post (((κ, tt), (q, tt), tt, (d, tt), (mach ∷ [], tt)), tt)
@@ -109,12 +110,15 @@ module _ {M : Type 1} (𝓤 : URA M) (H : Heap 𝓤) (A : Atoms 𝓤) (W : Given
   abbrev vd : Values (D .parts)
   vd = (d .file, (d .next, tt))
 
-  -- the result that is made of what `take_at` gives, and its machine value
-  abbrev made : Taken → Took
-  made t = record { given = t .given; file = d .file; next = t .next }
+  -- the reader that is handed back and the result that holds it, made of what `take_at` gives, and their machine values
+  abbrev moved : Step → Reader
+  moved t = record { file = d .file; next = t .next }
 
-  abbrev mach-made : Taken → Val
-  mach-made t = vstruct (vcons (EL.val G.the-type G′.the-laws (t .given)) (vcons v (vcons (vint w64 (t .next)) vnil)))
+  abbrev made : Step → ReaderStep
+  made t = record { given = t .given; reader = moved t }
+
+  abbrev mach-made : Step → Val
+  mach-made t = vstruct (vcons (EL.val G.the-type G′.the-laws (t .given)) (vcons (T′.lowered (moved t)) vnil))
 
   -- what the callee is passed
   abbrev passed : Vals take-at.signature (κ, tt)
@@ -139,42 +143,46 @@ module _ {M : Type 1} (𝓤 : URA M) (H : Heap 𝓤) (A : Atoms 𝓤) (W : Given
       move ! (3 ∷ 0 ∷ []) $ use2 W (raw (TakeAt 𝓤 H A mem run .pre to)) asked $ frame ! $ move ! (1 ∷ 0 ∷ []) $ done !)
 
   -- of the callee's `ensured`, the clause alone: it has no `&mut`, so what is said of last values is dropped
-  said : (t : Taken) → ent 𝓤 (ensured 𝓤 H A take-at.ended (take-at.clauses 𝓤 H A mem run) (κ, tt) (d .file, (d .next, tt)) tt t) (fact 𝓤 (t ≡ found))
-  said t = exE 𝓤 _ (λ ws. snd∗ 𝓤 (sem 𝓤 H A (lasts take-at.ended (κ, tt) (d .file, (d .next, tt)) ws)) (fact 𝓤 (t ≡ found)))
+  said : (t : Step) → ent 𝓤 (ensured 𝓤 H A take-at.ended (take-at.clauses 𝓤 H A mem run) (κ, tt) (d .file, (d .next, tt)) tt t) (fact 𝓤 (Said t))
+  said t = exE 𝓤 _ (λ ws. snd∗ 𝓤 (sem 𝓤 H A (lasts take-at.ended (κ, tt) (d .file, (d .next, tt)) ws)) (fact 𝓤 (Said t)))
 
-  exits : (t : Taken) (u : Val) → t ≡ found → Is K.the-row t (u ∷ [])
+  exits : (t : Step) (u : Val) → Said t → Is K.the-row t (u ∷ [])
       → ent 𝓤 (⋆ 𝓤 H A (‵ (K.the-row .own t (u ∷ [])) ∷ (‵ (flft κ q) ⊛ ‵ ftrue) ∷ ‵ Own ∷ ‵ FileOwn ∷ [])) (Post (mach-made t))
   exits t u e is =
       qed W (‵ (K.the-row .own t (u ∷ [])) ∷ (‵ (flft κ q) ⊛ ‵ ftrue) ∷ ‵ Own ∷ ‵ FileOwn ∷ []) ∵
       suffices ! _ (ends-at 𝓤 H A take-next.ended stayed (take-next.clauses 𝓤 H A mem run) W (((κ, tt), (q, tt), tt, (d, tt), (mach ∷ [], tt)), tt) (mach-made t) (made t) (tt, tt) (tt, tt)) $
-      says ! (ap (λ (x : Taken). x .given) e, refl, ap (λ (x : Taken). x .next) e) $
+      says ! (refl, e) $
       move ! (1 ∷ []) $ frame ! $ nothing ! $ move ! (2 ∷ 0 ∷ []) $ fjoin ! $ frame ! $
       -- [what `take_at`'s result owns; what file owns]
       use1 W (given (u ∷ [] ≡ LL.vals K.the-type K′.the-laws t) (‵ (all-own (K.the-type .parts) K′.the-laws (t .given, (t .next, tt))))) (own-open 𝓤 H A W K.the-type K′.the-laws (t .given, (t .next, tt)) u) $ learn ! (λ _. fsplit ! $ move ! (1 ∷ []) $ drop ! $
-      nothing ! $ owned ! u64 (Is u64) (uint-makes 𝓤 H A W w64) (t .next) _ (LL.owed K.the-type K′.the-laws t _ is .1 .0) $ fjoin ! $ move ! (2 ∷ 0 ∷ []) $ fjoin ! $ move ! (1 ∷ 0 ∷ []) $ fjoin ! $
-      by ! (own-shut 𝓤 H A W (O.the-type α) (O′.the-laws α) (t .given, (d .file, (t .next, tt)))))
+      nothing ! $ owned ! u64 (Is u64) (uint-makes 𝓤 H A W w64) (t .next) _ (LL.owed K.the-type K′.the-laws t _ is .1 .0) $ fjoin ! $ move ! (2 ∷ 0 ∷ []) $ fjoin ! $
+      -- [what the reader's fields own; what the given owns]: the reader is shut, and then the result that holds it
+      use1 W (‵ (B (κ, tt) .own (moved t) (T′.lowered (moved t) ∷ []))) (own-shut 𝓤 H A W D L (d .file, (t .next, tt))) $ nothing ! $ move ! (1 ∷ 0 ∷ []) $ fjoin ! $ move ! (1 ∷ 0 ∷ []) $ fjoin ! $
+      by ! (own-shut 𝓤 H A W (O.the-type α) (O′.the-laws α) (t .given, (moved t, tt))))
 
   module _ (C : Calls 𝓤 H) (Λ : Loops 𝓤 H) (fm : FmC 𝓤 H (W .laws) C) (known : Triple 𝓤 (C #rights·reader·take-at) (TakeAt 𝓤 H A mem run)) where
     walk : Is (B (κ, tt)) d (mach ∷ []) → Holds (hasTy (T′.mir (named 0)) mach) × WT mach → ent 𝓤 (onEntry 𝓤 H A take-next.signature (κ, tt) (q, tt) (d, tt) (mach ∷ [], tt)) (WpFn 𝓤 H C Λ code.function (mach ∷ []) Post)
     walk p wt =
         qed W (raw (onEntry 𝓤 H A take-next.signature (κ, tt) (q, tt) (d, tt) (mach ∷ [], tt)) ∷ []) ∵ enter ! C Λ code.function (mach ∷ []) _ $
-        alloc1 ! (λ l₀. alloc1 ! (λ l₁. alloc1 ! (λ l₂. alloc1 ! (λ l₃. alloc1 ! (λ l₄. alloc1 ! (λ l₅. alloc0 ! $ params1 ! $ pass1 ! (init ! 8 refl wt) $ pass0 ! $
-        -- [room for _5; …; _4; …; _3; …; _2; …; _1; …; room for _0; …; what r owns]
-        assigns ! (of-opd ! (load ! (from ! (fld ! refl (stop !))) (look-in ! 8 (sub ! 0 refl (whole !))))) (from ! (stop !)) (init ! 4 refl (tt, wt .1 .0)) $
-        assigns ! (of-opd ! (load ! (from ! (fld ! refl (stop !))) (look-in ! 8 (sub ! 1 refl (whole !))))) (from ! (stop !)) (init ! 2 refl (tt, wt .1 .1 .0)) $
-        move ! (12 ∷ []) $ use1 W (raw (TakeAt 𝓤 H A mem run .pre to) ⊛ (‵ Own ⊛ ‵ FileOwn)) (apart p) $ split ! $ move ! (1 ∷ []) $ split ! $ move ! (2 ∷ []) $
-        calls-at ! fm (TakeAt 𝓤 H A mem run) known to (and-then ! (load ! (from ! (stop !)) (look ! 7 refl)) (and-then ! (load ! (from ! (stop !)) (look ! 5 refl)) (no-more !))) (λ u.
-        use1 W (later (some (λ (t : Taken). ((‵ (flft κ q) ⊛ ‵ ftrue) ⊛ ‵ (K.the-row .own t (u ∷ []))) ⊛ raw (ensured 𝓤 H A take-at.ended (take-at.clauses 𝓤 H A mem run) (κ, tt) (d .file, (d .next, tt)) tt t)))) (id⊢ 𝓤 _) $ await ! tt $ pick ! (λ t.
-        split ! $ move ! (1 ∷ []) $ use1 W (raw (fact 𝓤 (t ≡ found))) (said t) $ heard ! (t ≡ found) (λ e. split ! $ move ! (1 ∷ []) $
-        -- [the callee's result; the token; what the struct owns; what file owns; _5; …; _4; …; _3; …; _2; …; _1; …; room for _0; …]
+        alloc1 ! (λ l₀. alloc1 ! (λ l₁. alloc1 ! (λ l₂. alloc1 ! (λ l₃. alloc1 ! (λ l₄. alloc1 ! (λ l₅. alloc1 ! (λ l₆. alloc0 ! $ params1 ! $ pass1 ! (init ! 10 refl wt) $ pass0 ! $
+        -- [room for _6; …; _5; …; _4; …; _3; …; _2; …; _1; …; room for _0; …; what r owns]
+        assigns ! (of-opd ! (load ! (from ! (fld ! refl (stop !))) (look-in ! 10 (sub ! 0 refl (whole !))))) (from ! (stop !)) (init ! 6 refl (tt, wt .1 .0)) $
+        assigns ! (of-opd ! (load ! (from ! (fld ! refl (stop !))) (look-in ! 10 (sub ! 1 refl (whole !))))) (from ! (stop !)) (init ! 4 refl (tt, wt .1 .1 .0)) $
+        move ! (14 ∷ []) $ use1 W (raw (TakeAt 𝓤 H A mem run .pre to) ⊛ (‵ Own ⊛ ‵ FileOwn)) (apart p) $ split ! $ move ! (1 ∷ []) $ split ! $ move ! (2 ∷ []) $
+        calls-at ! fm (TakeAt 𝓤 H A mem run) known to (and-then ! (load ! (from ! (stop !)) (look ! 9 refl)) (and-then ! (load ! (from ! (stop !)) (look ! 7 refl)) (no-more !))) (λ u.
+        use1 W (later (some (λ (t : Step). ((‵ (flft κ q) ⊛ ‵ ftrue) ⊛ ‵ (K.the-row .own t (u ∷ []))) ⊛ raw (ensured 𝓤 H A take-at.ended (take-at.clauses 𝓤 H A mem run) (κ, tt) (d .file, (d .next, tt)) tt t)))) (id⊢ 𝓤 _) $ await ! tt $ pick ! (λ t.
+        split ! $ move ! (1 ∷ []) $ use1 W (raw (fact 𝓤 (Said t))) (said t) $ heard ! (Said t) (λ e. split ! $ move ! (1 ∷ []) $
+        -- [the callee's result; the token; what the struct owns; what file owns; _6; …; _5; …; _4; …; _3; …; _2; …; _1; …; room for _0; …]
         peeks ! K.the-row (Is K.the-row) (shows 𝓤 H A K.the-row) t (u ∷ []) (λ is.
-        land ! (from ! (stop !)) (init ! 10 refl (LL.lawful K.the-type K′.the-laws 𝓤 H A W .typed t _ is .0)) $
-        rewrite ! 10 (λ (w : Val). ‵ (fat fullShare K′.mir l₂ 0 w)) (ap only (LL.tells K.the-type K′.the-laws t _ is)) refl $
-        assigns ! (of-opd ! (load ! (from ! (fld ! refl (stop !))) (look-in ! 12 (sub ! 0 refl (whole !))))) (from ! (stop !)) (init ! 4 refl (tt, wt .1 .0)) $
-        assigns ! (agg ! (and-then ! (load ! (from ! (fld ! refl (stop !))) (look-in ! 10 (sub ! 0 refl (whole !)))) (and-then ! (load ! (from ! (stop !)) (look ! 4 refl)) (and-then ! (load ! (from ! (fld ! refl (stop !))) (look-in ! 10 (sub ! 1 refl (whole !)))) (no-more !))))) (from ! (stop !))
-        (init ! 14 refl (LL.lawful (O.the-type α) (O′.the-laws α) 𝓤 H A W .typed (made t) _ (LL.owes (O.the-type α) (O′.the-laws α) (made t) (LL.owed K.the-type K′.the-laws t _ is .0, (LL.owed D L d _ p .0, (LL.owed K.the-type K′.the-laws t _ is .1 .0, tt)))) .0)) $
-        returns ! (look ! 14 refl) $ forget ! 4 refl $ forget ! 6 refl $ forget ! 8 refl $ forget ! 10 refl $ forget ! 12 refl $ forget ! 14 refl $
-        move ! (14 ∷ 15 ∷ []) $ free1 ! $ move ! (12 ∷ 13 ∷ []) $ free1 ! $ move ! (10 ∷ 11 ∷ []) $ free1 ! $ move ! (8 ∷ 9 ∷ []) $ free1 ! $ move ! (6 ∷ 7 ∷ []) $ free1 ! $ move ! (4 ∷ 5 ∷ []) $ free1 ! $ free0 ! $ by ! (exits t u e is)))))))))))
+        land ! (from ! (stop !)) (init ! 12 refl (LL.lawful K.the-type K′.the-laws 𝓤 H A W .typed t _ is .0)) $
+        rewrite ! 12 (λ (w : Val). ‵ (fat fullShare K′.mir l₂ 0 w)) (ap only (LL.tells K.the-type K′.the-laws t _ is)) refl $
+        assigns ! (of-opd ! (load ! (from ! (fld ! refl (stop !))) (look-in ! 14 (sub ! 0 refl (whole !))))) (from ! (stop !)) (init ! 6 refl (tt, wt .1 .0)) $
+        assigns ! (agg ! (and-then ! (load ! (from ! (stop !)) (look ! 6 refl)) (and-then ! (load ! (from ! (fld ! refl (stop !))) (look-in ! 12 (sub ! 1 refl (whole !)))) (no-more !)))) (from ! (stop !))
+        (init ! 4 refl (tt, (wt .1 .0, (record { fits = LL.owed K.the-type K′.the-laws t _ is .1 .0 .1 }, tt)))) $
+        assigns ! (agg ! (and-then ! (load ! (from ! (fld ! refl (stop !))) (look-in ! 12 (sub ! 0 refl (whole !)))) (and-then ! (load ! (from ! (stop !)) (look ! 4 refl)) (no-more !)))) (from ! (stop !))
+        (init ! 16 refl (LL.lawful (O.the-type α) (O′.the-laws α) 𝓤 H A W .typed (made t) _ (LL.owes (O.the-type α) (O′.the-laws α) (made t) (LL.owed K.the-type K′.the-laws t _ is .0, (LL.owes D L (moved t) (LL.owed D L d _ p .0, (LL.owed K.the-type K′.the-laws t _ is .1 .0, tt)), tt))) .0)) $
+        returns ! (look ! 16 refl) $ forget ! 4 refl $ forget ! 6 refl $ forget ! 8 refl $ forget ! 10 refl $ forget ! 12 refl $ forget ! 14 refl $ forget ! 16 refl $
+        move ! (16 ∷ 17 ∷ []) $ free1 ! $ move ! (14 ∷ 15 ∷ []) $ free1 ! $ move ! (12 ∷ 13 ∷ []) $ free1 ! $ move ! (10 ∷ 11 ∷ []) $ free1 ! $ move ! (8 ∷ 9 ∷ []) $ free1 ! $ move ! (6 ∷ 7 ∷ []) $ free1 ! $ move ! (4 ∷ 5 ∷ []) $ free1 ! $ free0 ! $ by ! (exits t u e is))))))))))))
 
 module _ {M : Type 1} (𝓤 : URA M) (H : Heap 𝓤) (A : Atoms 𝓤) (W : Given 𝓤 H A) (mem : Memory → SProp 𝓤) (run : Routine → Fun 𝓤) where
   take-next-walks : (C : Calls 𝓤 H) (Λ : Loops 𝓤 H) → FmC 𝓤 H (W .laws) C → Triple 𝓤 (C #rights·reader·take-at) (TakeAt 𝓤 H A mem run)

@@ -4,17 +4,18 @@ use native.Mathlib.Omega.{arith}
 use Prim.Native.Nat.{ℕ, _+_, _-_, _≤_}
 use mathlib.Core.Path.{_≡_, refl}
 use lib.ListN.{length, getD, take, length-set}
+use Rattle.numbers.specs.Limits.{owners}
 use Rattle.numbers.specs.Lists.{listBelow}
 use Rattle.numbers.proofs.Counts.{filled-more, filled-all, getD-le-total}
-use Rattle.settlement.specs.Parts.{sums}
+use Rattle.settlement.specs.Events.{addedTo}
 use Rattle.settlement.proofs.cells.added.Statement.{statement}
 use Rattle.settlement.proofs.cells.added.Tie as tie
 
 abbrev Inv-loop : tie.InvT-loop
-Inv-loop cells unpaid after₀ i₀ after i = (i ≤ 64) × (length after ≡ 64) × (take i after ≡ listBelow (λ (k : ℕ). getD cells k 0 + getD unpaid k 0) i)
+Inv-loop cells unpaid after₀ i₀ after i = (i ≤ owners) × (length after ≡ owners) × (take i after ≡ listBelow (λ (k : ℕ). getD cells k 0 + getD unpaid k 0) i)
 
 abbrev μ-loop : tie.MeasureT-loop
-μ-loop cells unpaid after₀ i₀ after i = 64 - i
+μ-loop cells unpaid after₀ i₀ after i = owners - i
 
 loop-holds : tie.Need-loop-holds Inv-loop μ-loop
 unfolding listBelow
@@ -55,8 +56,8 @@ loop-again c = (
 )
 
 returns : tie.Need-returns Inv-loop μ-loop
-unfolding sums
-returns c = filled-all _ _ _ 64 (omega arith) (omega arith) (c .before .loop .inv .2)
+unfolding addedTo
+returns c = filled-all _ _ _ owners (omega arith) (omega arith) (c .before .loop .inv .2)
 
 pub added-spec : {M : Type 1} → statement M
 added-spec =

@@ -4,17 +4,18 @@ use native.Mathlib.Omega.{arith}
 use Prim.Native.Nat.{ℕ, _-_, _≤_}
 use mathlib.Core.Path.{_≡_, refl}
 use lib.ListN.{length, getD, take, length-set}
+use Rattle.numbers.specs.Limits.{owners}
 use Rattle.numbers.specs.Lists.{listBelow}
 use Rattle.numbers.proofs.Counts.{filled-more, filled-all}
-use Rattle.settlement.specs.Parts.{rests}
+use Rattle.settlement.specs.Events.{unpaidOf}
 use Rattle.settlement.proofs.cells.unpaid_of.Statement.{statement}
 use Rattle.settlement.proofs.cells.unpaid_of.Tie as tie
 
 abbrev Inv-loop : tie.InvT-loop
-Inv-loop wants payments unpaid₀ i₀ unpaid i = (i ≤ 64) × (length unpaid ≡ 64) × (take i unpaid ≡ listBelow (λ (k : ℕ). getD wants k 0 - getD payments k 0) i)
+Inv-loop wants payments unpaid₀ i₀ unpaid i = (i ≤ owners) × (length unpaid ≡ owners) × (take i unpaid ≡ listBelow (λ (k : ℕ). getD wants k 0 - getD payments k 0) i)
 
 abbrev μ-loop : tie.MeasureT-loop
-μ-loop wants payments unpaid₀ i₀ unpaid i = 64 - i
+μ-loop wants payments unpaid₀ i₀ unpaid i = owners - i
 
 loop-holds : tie.Need-loop-holds Inv-loop μ-loop
 unfolding listBelow
@@ -55,8 +56,8 @@ loop-again c = (
 )
 
 returns : tie.Need-returns Inv-loop μ-loop
-unfolding rests
-returns c = filled-all _ _ _ 64 (omega arith) (omega arith) (c .before .loop .inv .2)
+unfolding unpaidOf
+returns c = filled-all _ _ _ owners (omega arith) (omega arith) (c .before .loop .inv .2)
 
 pub unpaid-of-spec : {M : Type 1} → statement M
 unpaid-of-spec =

@@ -3,17 +3,20 @@
 use native.Mathlib.Omega.{arith}
 use borrow.Author.Needs.{needs}
 use Prim.Native.Nat.{ℕ, _+_, _≤_, min}
-use mathlib.Core.List.{List}
 use mathlib.Core.Path.{_≡_, ap, _∙_}
 use lib.ListN.{length}
+use Rattle.numbers.specs.Limits.{mostCents}
 use Rattle.numbers.specs.Lists.{total}
-use Rattle.settlement.specs.Parts.{wantsOf, chargesOf, monthAfter}
-use Rattle.settlement.proofs.Closing.{unpaid-small}
-use Rattle.settlement.proofs.HourSteps.{wants-length, wants-large, charges-large, carry-full, carried, next-is, shares-are}
+use Rattle.split.specs.Split.{payments}
+use Rattle.settlement.specs.declared.payment.Paid.{Paid}
+use Rattle.settlement.specs.Book.{allShortfalls}
+use Rattle.settlement.specs.Events.{hourWants, hourCharges, hourFund, hourBook}
+use Rattle.settlement.proofs.Paying.{unpaid-small}
+use Rattle.settlement.proofs.SharingOut.{wants-length, wants-over, charges-over, carry-over, all-within, refused-shares, accepted-shares, next-is, shares-are}
 use Rattle.settlement.proofs.payment.share_out.Statement.{statement}
 use Rattle.settlement.proofs.payment.share_out.Tie as tie
 
--- the places on the way: the wants are few, the charges are, all is summed up
+-- the places on the way: the wants are summed, the charges are, all is added up
 abbrev start-1 : tie.After-capped-total → tie.Start
 start-1 c = c .before .before .before
 
@@ -24,42 +27,49 @@ abbrev start-2 : tie.Else2 → tie.Start
 start-2 c = start-1 (wanted c .before)
 
 abbrev charged : tie.After-added → tie.Else2
-charged c = c .before .before .before
+charged c = c .before .before .before .before .before
+
+abbrev paid : tie.After-added → tie.After-pay
+paid c = c .before .before .before .before
 
 abbrev start-3 : tie.After-added → tie.Start
 start-3 c = start-2 (charged c)
 
-abbrev paid : tie.After-capped-total3 → tie.After-added
-paid c = c .before .before .before .before
+abbrev summed : tie.After-capped-total3 → tie.After-added
+summed c = c .before .before .before .before
 
--- the month's cells after the hour, as the rules have them
-abbrev after : tie.Start → List ℕ
-after s = monthAfter (s .args .month) (s .args .collected) (s .args .targets)
+-- all shortfalls after the hour, as the rules have them
+abbrev carry : tie.Start → ℕ
+carry s = allShortfalls (hourBook (s .args .book) (hourFund (s .args .collected) (s .args .targets)) (hourWants (s .args .targets)))
 
-sum-is : (c : tie.After-capped-total) → c .capped-total .result ≡ min (total (wantsOf (start-1 c .args .targets))) 4_000_000_001
+sum-is : (c : tie.After-capped-total) → c .capped-total .result ≡ min (total (hourWants (start-1 c .args .targets))) (mostCents + 1)
 sum-is c = omega (arith, c .capped-total .ensures, ap total (c .before .before .wants-of .ensures))
 
-few : (c : tie.Else1) → total (wantsOf (start-1 (c .before) .args .targets)) ≤ 4_000_000_000
+few : (c : tie.Else1) → total (hourWants (start-1 (c .before) .args .targets)) ≤ mostCents
 few c = omega (arith, sum-is (c .before))
 
-light : (c : tie.Else2) → chargesOf (start-2 c .args .targets) ≤ 4_000_000_000
+light : (c : tie.Else2) → hourCharges (start-2 c .args .targets) ≤ mostCents
 light c = omega (arith, c .before .charges-of .ensures)
 
-charges-are : (c : tie.Else2) → c .before .charges-of .result ≡ chargesOf (start-2 c .args .targets)
+charges-are : (c : tie.Else2) → c .before .charges-of .result ≡ hourCharges (start-2 c .args .targets)
 charges-are c = omega (arith, c .before .charges-of .ensures)
 
-wants-are : (c : tie.Else2) → wanted c .before .before .before .wants-of .result ≡ wantsOf (start-2 c .args .targets)
+wants-are : (c : tie.Else2) → wanted c .before .before .before .wants-of .result ≡ hourWants (start-2 c .args .targets)
 wants-are c = wanted c .before .before .before .wants-of .ensures
 
-next : (c : tie.After-added) → c .added .result ≡ after (start-3 c)
+next : (c : tie.After-added)
+    → c .added .result
+    ≡ hourBook (start-3 c .args .book) (hourFund (start-3 c .args .collected) (start-3 c .args .targets)) (hourWants (start-3 c .args .targets)) .monthshort
 next c =
     let e = charged c in
     let a = start-3 c .args in
-    next-is (a .month) (a .t2) (a .collected) (a .targets) _ (wants-are e) _ (charges-are e) _ (c .before .before .pay .ensures) _ (c .added .ensures)
+    next-is (a .book) (a .collected) (a .targets) _ (wants-are e) _ (charges-are e) _ (paid c .pay .ensures) _ (c .added .ensures)
 
-shortfalls : (c : tie.After-capped-total3)
-    → c .capped-total3 .result ≡ min (total (after (start-3 (paid c))) + total (start-3 (paid c) .args .t2)) 4_000_000_001
-shortfalls c = omega (arith, c .capped-total3 .ensures, c .before .before .capped-total2 .ensures, ap total (next (paid c)))
+shortfalls : (c : tie.After-capped-total3) → c .capped-total3 .result ≡ min (carry (start-3 (summed c))) (mostCents + 1)
+shortfalls c = omega (arith, c .capped-total3 .ensures, c .before .before .capped-total2 .ensures, ap total (next (summed c)))
+
+add-cap : tie.Need-add-cap
+add-cap c = search needs
 
 wants-of-requires : tie.Need-wants-of-requires
 wants-of-requires c κs = search needs
@@ -76,8 +86,7 @@ no-shares-requires c κs = search needs
 returns : tie.Need-returns
 returns c =
     let s = c .before .before in
-    let a = start-1 s .args in
-    wants-large (a .month) (a .t2) (a .collected) (a .targets) _ (c .no-shares .ensures) (omega (arith, sum-is s))
+    refused-shares _ _ _ _ 9 (c .no-shares .ensures) (λ z. omega arith) (wants-over _ _ _ _ (omega (arith, sum-is s)))
 
 charges-of-requires : tie.Need-charges-of-requires
 charges-of-requires c κs = search needs
@@ -88,8 +97,8 @@ no-shares-requires-2 c κs = search needs
 returns-2 : tie.Need-returns-2
 returns-2 c =
     let s = c .before .before in
-    let a = start-1 (s .before .before) .args in
-    charges-large (a .month) (a .t2) (a .collected) (a .targets) _ (c .no-shares2 .ensures) (omega (arith, s .charges-of .ensures))
+    refused-shares _ _ _ _ 9 (c .no-shares2 .ensures) (λ z. omega arith)
+    (charges-over _ _ _ _ (few (s .before)) (omega (arith, s .charges-of .ensures)))
 
 add-fund : tie.Need-add-fund
 add-fund c = search needs
@@ -99,11 +108,13 @@ pay-requires c κs = search needs
 
 added-requires : tie.Need-added-requires
 added-requires c κs =
-    let e = c .before .before in
-    let a = start-2 e .args in
-    let all = ap length (wants-are e) ∙ wants-length (a .month) (a .t2) (a .collected) (a .targets) in
-    let small = unpaid-small _ _ (c .before .pay .result) (c .before .pay .ensures) all in
-    (omega arith, omega (arith, few (wanted e), ap total (wants-are e)))
+    let p = c .before .before .before in
+    let e = p .before in
+    let ws = wanted e .before .before .before .wants-of .result in
+    let fund = start-2 e .args .collected + e .before .charges-of .result in
+    let all = ap length (wants-are e) ∙ wants-length (start-2 e .args .targets) in
+    let unpaid = ap (λ (x : Paid). total (x .unpaid)) (p .pay .ensures) in
+    (omega arith, omega (arith, unpaid-small ws (payments fund ws) all, few (wanted e), ap total (wants-are e)))
 
 slice-aggregate-capped-total-2 : tie.Need-slice-aggregate-capped-total-2
 slice-aggregate-capped-total-2 c = search needs
@@ -123,24 +134,26 @@ no-shares-requires-3 c κs = search needs
 returns-3 : tie.Need-returns-3
 returns-3 c =
     let s = c .before .before in
-    let e = charged (paid s) in
-    let a = start-2 e .args in
-    carry-full (a .month) (a .t2) (a .collected) (a .targets) (few (wanted e)) (light e) _ (c .no-shares3 .ensures) (omega (arith, shortfalls s))
+    let e = charged (summed s) in
+    refused-shares _ _ _ _ 10 (c .no-shares3 .ensures) (λ z. omega arith)
+    (carry-over _ _ _ _ (few (wanted e)) (light e) (omega (arith, shortfalls s)))
 
 returns-4 : tie.Need-returns-4
 returns-4 c =
     let s = c .before .before in
-    let e = charged (paid s) in
+    let p = summed s in
+    let e = charged p in
     let a = start-2 e .args in
-    carried (a .month) (a .t2) (a .collected) (a .targets) (few (wanted e)) (light e) _
-    (shares-are (a .month) (a .t2) (a .collected) (a .targets) _ (wants-are e) _ (charges-are e) _ (paid s .before .before .pay .ensures) _ (paid s .added .ensures) _
+    accepted-shares (a .book) (a .collected) (a .targets) _
+    (shares-are (a .book) (a .collected) (a .targets) _ (wants-are e) _ (charges-are e) _ (paid p .pay .ensures) _ (p .added .ensures) _
     (omega (arith, sum-is (wanted e .before), few (wanted e))))
-    (omega (arith, shortfalls s))
+    (all-within _ _ _ _ (few (wanted e)) (light e) (omega (arith, shortfalls s, c .before .if3 .left)))
 
 pub share-out-spec : {M : Type 1} → statement M
 share-out-spec =
     tie.close
     (tie.spec
+    add-cap
     wants-of-requires
     slice-aggregate-capped-total
     capped-total-requires
