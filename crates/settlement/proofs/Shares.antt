@@ -9,12 +9,13 @@ use lib.IntN.{ℤ, pos, negsuc}
 use Rattle.numbers.specs.Limits.{owners}
 use Rattle.numbers.specs.Lists.{total, listBelow}
 use Rattle.numbers.specs.Signs.{positive, negative}
-use Rattle.numbers.proofs.Counts.{length-listBelow, getD-listBelow}
+use Rattle.numbers.proofs.Counts.{getD-listBelow}
 use Rattle.split.specs.Split.{WithinACent, payments, left}
 use Rattle.split.proofs.Laws.{payments-length, payment-at, payments-at-most, closes, closes-enough, nothing-left, within-a-cent}
 use Rattle.settlement.specs.declared.Book.{Book}
 use Rattle.settlement.specs.Events.{Call, hourCall, monthEndCall, yearEndCall, nextTargets, targetOf, hourWants, wants, fund, demand, paid, hourLine, hourLines, paymentLines, lines, unpaidOf, addedTo}
 use Rattle.settlement.proofs.Paying.{same-cells, left-small}
+use Rattle.settlement.proofs.SharingOut.{wants-length}
 
 -- what an owner wants and is paid
 abbrev pub wanted : Call → Book → ℕ → ℕ
@@ -36,8 +37,8 @@ pub record IsLong (book : Book) : Type 0 where
   pub year : length (book .yearshort) ≡ owners
 
 pub wants-long : (call : Call) (book : Book) → IsLong book → length (wants call book) ≡ owners
-unfolding wants hourWants
-wants-long (hourCall file prices collected) book long = length-listBelow _ owners
+unfolding wants
+wants-long (hourCall file prices collected) book long = wants-length (nextTargets file prices book)
 wants-long monthEndCall book long = long .month
 wants-long yearEndCall book long = long .year
 
