@@ -1,5 +1,5 @@
-/* Links the archive and checks both functions against plain C arithmetic. Exit status 0 if all agree. */
-#include "pupcopper_billing.h"
+/* Links the archive and checks pupcopper_class and pupcopper_cents against plain C arithmetic. Exit status 0 if all agree. */
+#include "pupcopper.h"
 
 #include <inttypes.h>
 #include <stdio.h>

@@ -1,10 +1,10 @@
 //! A plain second calculation of the settlement of one operating year of
-//! point-to-point rights, and the drawn cases it is compared on.
+//! point-to-point rights.
 
-// Draws are written here as DRAWS.md writes them, with a remainder.
+// A remainder reads like the paper's "not a multiple of 16".
 #![allow(clippy::manual_is_multiple_of)]
 
-// The rules.
+// The rules, written from the scope paper alone.
 pub mod book;
 pub mod calendar;
 pub mod program;
@@ -13,15 +13,9 @@ pub mod rights;
 pub mod split;
 pub mod target;
 
-// The drawn cases.
-pub mod book_cases;
-pub mod calendar_cases;
-pub mod call_lists;
+// What a host lends and gets, in words, from `host/pupcopper.h`.
+pub mod words;
+
+// Drawn numbers, and years for whole runs of the program.
 pub mod draws;
-pub mod limit_cases;
 pub mod make_year;
-pub mod read_cases;
-pub mod rights_draws;
-pub mod split_cases;
-pub mod target_cases;
-pub mod worked_examples;

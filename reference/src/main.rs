@@ -1,78 +1,51 @@
-//! The command: one subcommand for each set of cases, and the program.
+//! The command: the program by the second calculation, and years to run it on.
 
 use std::io::{self, BufWriter, Write};
 use std::path::Path;
 use std::process::ExitCode;
 
-use reference::{
-    book_cases, calendar_cases, call_lists, limit_cases, make_year, program, read_cases,
-    split_cases, target_cases, worked_examples,
-};
+use reference::make_year::{self, Year};
+use reference::program;
 
 const USAGE: &str = "usage: reference COMMAND
-  calendar-cases   rounding-cases   read-cases   reader-cases
-  split-cases      target-cases     worked-examples
-  book-cases       limit-cases      call-lists
-  show-split N     show-target N    show-book N     show-calls N
   program          (ftr.bin in the current folder, hours on standard input)
-  make-year SEED RIGHTS HOURS OUTDIR";
+  make-year SEED RIGHTS HOURS OUTDIR [daily]";
 
-/// Prints one of the stored sets; gives false for an unknown name.
-fn print_set(name: &str, output: &mut dyn Write) -> io::Result<bool> {
-    match name {
-        "calendar-cases" => calendar_cases::print_calendar(output)?,
-        "rounding-cases" => calendar_cases::print_rounding(output)?,
-        "read-cases" => read_cases::print_reads(output)?,
-        "reader-cases" => read_cases::print_reader(output)?,
-        "split-cases" => split_cases::print(output)?,
-        "target-cases" => target_cases::print(output)?,
-        "worked-examples" => worked_examples::print(output)?,
-        "book-cases" => book_cases::print(output)?,
-        "limit-cases" => limit_cases::print(output)?,
-        "call-lists" => call_lists::print(output)?,
-        "program" => run_program(output)?,
-        _ => return Ok(false),
-    }
-    Ok(true)
-}
-
-/// Shows the first cases of a set; gives false for an unknown name.
-fn show_set(name: &str, count: u64, output: &mut dyn Write) -> io::Result<bool> {
-    match name {
-        "show-split" => split_cases::show(output, count)?,
-        "show-target" => target_cases::show(output, count)?,
-        "show-book" => book_cases::show(output, count)?,
-        "show-calls" => call_lists::show(output, count)?,
-        _ => return Ok(false),
-    }
-    Ok(true)
-}
-
-fn run_program(output: &mut dyn Write) -> io::Result<()> {
+fn run_program(output: &mut dyn Write) -> io::Result<bool> {
     let rights = program::read_rights(Path::new("ftr.bin"));
-    program::run(rights.as_deref(), &mut io::stdin().lock(), output)
+    program::run(rights.as_deref(), &mut io::stdin().lock(), output)?;
+    Ok(true)
 }
 
 /// Gives false for numbers that can't be read or a seed of 0.
-fn write_year(seed: &str, rights: &str, hours: &str, folder: &str) -> io::Result<bool> {
-    match (seed.parse(), rights.parse(), hours.parse()) {
-        (Ok(seed), Ok(rights), Ok(hours)) if seed != 0 => {
-            make_year::write(seed, rights, hours, Path::new(folder))?;
-            Ok(true)
-        }
-        _ => Ok(false),
+fn write_year(numbers: [&str; 3], folder: &str, daily: bool) -> io::Result<bool> {
+    let [Ok(seed), Ok(rights), Ok(hours)] = numbers.map(str::parse) else {
+        return Ok(false);
+    };
+    if seed == 0 {
+        return Ok(false);
     }
+    let year = Year {
+        seed,
+        rights,
+        hours,
+        daily,
+    };
+    make_year::write_files(&year, Path::new(folder))?;
+    Ok(true)
 }
 
+/// Gives false for a command that there is not.
 fn run(words: &[String], output: &mut dyn Write) -> io::Result<bool> {
     let words: Vec<&str> = words.iter().map(String::as_str).collect();
     match words.as_slice() {
-        [name] => print_set(name, output),
-        [name, count] => match count.parse() {
-            Ok(count) => show_set(name, count, output),
-            Err(_) => Ok(false),
-        },
-        ["make-year", seed, rights, hours, folder] => write_year(seed, rights, hours, folder),
+        ["program"] => run_program(output),
+        ["make-year", seed, rights, hours, folder] => {
+            write_year([seed, rights, hours], folder, false)
+        }
+        ["make-year", seed, rights, hours, folder, "daily"] => {
+            write_year([seed, rights, hours], folder, true)
+        }
         _ => Ok(false),
     }
 }

@@ -1,4 +1,8 @@
-//! Rights and hours for whole runs of the program, as DRAWS.md says.
+//! Rights and hours for whole runs of the program, drawn from a seed.
+//!
+//! An odd seed gives a year with long funds over all, an even one a poor year;
+//! months 0, 2, 4 and so on are short and the others long, so that month ends
+//! and the year end pay.
 
 use std::fs::{create_dir_all, File};
 use std::io::{self, BufWriter, Write};
@@ -6,14 +10,16 @@ use std::path::Path;
 
 use crate::calendar::month_of;
 use crate::draws::Draws;
-use crate::rights::{Right, RECORD};
-use crate::rights_draws::put_right;
+use crate::rights::{encode, Right};
 use crate::target::MOST_PRICES;
 
-/// What the amounts collected depend on.
-struct Year {
-    rights: u64,
-    poor: bool,
+/// What the hours of a year depend on.
+pub struct Year {
+    pub seed: u64,
+    pub rights: u64,
+    pub hours: u64,
+    /// The prices change only at the first hour of each day.
+    pub daily: bool,
 }
 
 fn draw_right(draws: &mut Draws) -> Right {
@@ -23,10 +29,10 @@ fn draw_right(draws: &mut Draws) -> Right {
     let kind = draws.below(2);
     let class = draws.below(3);
     let size = draws.below(100) + 1;
-    let t = draws.below(4);
+    let part_of_year = draws.once_in(4);
     let x = draws.below(365) + 1;
     let y = draws.below(365) + 1;
-    let (first, last) = if t == 0 {
+    let (first, last) = if part_of_year {
         (x.min(y), x.max(y))
     } else {
         (1, 365)
@@ -43,46 +49,76 @@ fn draw_right(draws: &mut Draws) -> Right {
     }
 }
 
-/// The amount collected: short funds in months 0, 2, 4 and so on, long funds
-/// in the others; a poor year ends short, another with a surplus.
+/// The amount collected grows with the number of rights.
 fn draw_collected(draws: &mut Draws, year: &Year, hour: u64) -> i64 {
-    let a = draws.any();
-    let even = month_of(hour) % 2 == 0;
-    let per_right = match (year.poor, even) {
-        (false, true) => a % 1_700,
-        (false, false) => a % 2_200,
-        (true, true) => a % 1_650,
-        (true, false) => a % 1_950,
+    let poor = year.seed % 2 == 0;
+    let short_month = month_of(hour) % 2 == 0;
+    let most_per_right = match (poor, short_month) {
+        (false, true) => 1_700,
+        (false, false) => 2_200,
+        (true, true) => 1_650,
+        (true, false) => 1_950,
     };
+    let per_right = draws.below(most_per_right);
     i64::try_from(per_right.saturating_mul(year.rights)).unwrap_or(i64::MAX)
 }
 
-fn write_hour(draws: &mut Draws, year: &Year, hour: u64, output: &mut dyn Write) -> io::Result<()> {
-    let collected = draw_collected(draws, year, hour);
-    output.write_all(&collected.to_le_bytes())?;
-    for _ in 0..MOST_PRICES {
-        let price = draws.below(4_001) as i32 - 2_000;
-        output.write_all(&price.to_le_bytes())?;
+fn draw_prices(draws: &mut Draws) -> [i32; MOST_PRICES] {
+    [(); MOST_PRICES].map(|()| draws.below(4_001) as i32 - 2_000)
+}
+
+/// Writes the rights file to one output and the hours to the other.
+pub fn write(year: &Year, file: &mut dyn Write, hours: &mut dyn Write) -> io::Result<()> {
+    let mut draws = Draws::new(year.seed);
+    for _ in 0..year.rights {
+        file.write_all(&encode(&draw_right(&mut draws)))?;
+    }
+    let mut prices = [0; MOST_PRICES];
+    for hour in 0..year.hours {
+        let collected = draw_collected(&mut draws, year, hour);
+        if !year.daily || hour % 24 == 0 {
+            prices = draw_prices(&mut draws);
+        }
+        hours.write_all(&collected.to_le_bytes())?;
+        for price in prices {
+            hours.write_all(&price.to_le_bytes())?;
+        }
     }
     Ok(())
 }
 
 /// Writes `ftr.bin` and `hours.bin` into the folder.
-pub fn write(seed: u64, rights: u64, hours: u64, folder: &Path) -> io::Result<()> {
+pub fn write_files(year: &Year, folder: &Path) -> io::Result<()> {
     create_dir_all(folder)?;
-    let mut draws = Draws::new(seed);
     let mut file = BufWriter::new(File::create(folder.join("ftr.bin"))?);
-    for _ in 0..rights {
-        let mut record = [0; RECORD];
-        put_right(&mut record, 0, &draw_right(&mut draws));
-        file.write_all(&record)?;
-    }
+    let mut hours = BufWriter::new(File::create(folder.join("hours.bin"))?);
+    write(year, &mut file, &mut hours)?;
     file.flush()?;
-    let poor = seed % 2 == 0;
-    let year = Year { rights, poor };
-    let mut file = BufWriter::new(File::create(folder.join("hours.bin"))?);
-    for hour in 0..hours {
-        write_hour(&mut draws, &year, hour, &mut file)?;
+    hours.flush()
+}
+
+#[cfg(test)]
+mod tests {
+    use super::*;
+    use crate::program::HOUR_BYTES;
+
+    /// How often the prices differ from those of the hour before.
+    fn price_changes(daily: bool) -> usize {
+        let year = Year {
+            seed: 7,
+            rights: 3,
+            hours: 72,
+            daily,
+        };
+        let mut hours = Vec::new();
+        assert!(write(&year, &mut Vec::new(), &mut hours).is_ok());
+        let prices: Vec<&[u8]> = hours.chunks(HOUR_BYTES).map(|hour| &hour[8..]).collect();
+        prices.windows(2).filter(|two| two[0] != two[1]).count()
     }
-    file.flush()
+
+    #[test]
+    fn daily_prices_change_at_the_first_hour_of_a_day() {
+        assert_eq!(price_changes(false), 71);
+        assert_eq!(price_changes(true), 2);
+    }
 }

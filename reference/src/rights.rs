@@ -50,6 +50,27 @@ pub fn decode(record: &[u8]) -> Right {
     }
 }
 
+/// The 16 bytes of a record; of a number too large for its field the low bytes.
+pub fn encode(right: &Right) -> [u8; RECORD] {
+    let fields = [
+        (right.owner, 2),
+        (right.source, 2),
+        (right.sink, 2),
+        (right.kind, 1),
+        (right.class, 1),
+        (right.size, 4),
+        (right.first, 2),
+        (right.last, 2),
+    ];
+    let mut record = [0; RECORD];
+    let mut at = 0;
+    for (number, count) in fields {
+        record[at..at + count].copy_from_slice(&number.to_le_bytes()[..count]);
+        at += count;
+    }
+    record
+}
+
 /// "a field outside its values".
 pub fn is_bad(right: &Right) -> bool {
     let good = right.owner <= 63
@@ -184,6 +205,7 @@ mod tests {
             last: 365,
         };
         assert_eq!(right, expected);
+        assert_eq!(encode(&right), GOOD);
         assert_eq!(read(&GOOD, 1), refused(4));
         assert_eq!(read(&GOOD[..15], 0), refused(4));
         assert_eq!(read(&[], 0), refused(4));

@@ -2,15 +2,17 @@
 -- Assumes nothing.
 use Prim.Native.Nat.{ℕ, _<_, _≤_}
 use mathlib.Core.Path.{_≡_, refl, sym, subst}
-use mathlib.Core.Bool.{Bool, true, false, cond, not, _||_, false≢true}
+use mathlib.Core.Bool.{Bool, true, false, cond, not, _&&_, _||_, false≢true}
 use mathlib.Core.List.{List, []}
 use native.Mathlib.Nat.{le-antisymm}
+use lib.Dec.{ltb, eqb}
 use lib.ListN.{length}
 use native.Mathlib.Omega.{arith}
-use borrow.Author.Tests.{lt-ltb, ne-eqb}
+use borrow.Author.Tests.{lt-ltb, ltb-true, ne-eqb, eqb-true}
 use Rattle.numbers.specs.Lists.{anyBelow, IsFirst}
 use Rattle.numbers.specs.Refusals.{firstRefusal}
 use Rattle.numbers.proofs.Any.{any-here, any-find}
+use Rattle.numbers.proofs.Booleans.{both-true}
 use Rattle.numbers.proofs.Refusals.{isWithin, refusal-next}
 use Rattle.rights.specs.Layout.{recordCount, rightAt, isGood, isWrongLength}
 use Rattle.rights.specs.Faults.{isUnpriced, faultAt, anyFault, faultRows, fileRefusal, namesFault}
@@ -122,6 +124,17 @@ module _ (prices : ℕ) (file : List ℕ) where
 
   pub names-none : (refusal : ℕ) → refusal < 7 → namesFault prices file refusal 0 ≡ true
   names-none refusal below = names-other refusal (λ e. omega arith) (λ e. omega arith)
+
+  -- a named record is one of the file
+  pub named-within : (refusal number : ℕ) → namesFault prices file refusal number ≡ true → number ≤ recordCount file
+  unfolding namesFault
+  named-within refusal number names = by-fault (eqb refusal 7 || eqb refusal 8) refl
+    where
+      by-fault : (fault : Bool) → (eqb refusal 7 || eqb refusal 8) ≡ fault → number ≤ recordCount file
+      by-fault true is =
+          let named : (ltb number (recordCount file) && faultAt prices file refusal number) ≡ true = rw is at names in
+          omega (arith, ltb-true number (recordCount file) (both-true (ltb number (recordCount file)) (faultAt prices file refusal number) named .0))
+      by-fault false is = omega (arith, eqb-true number 0 (rw is at names))
 
 -- "An empty file is good": it has the right length, and no record with a fault
 pub empty-length : isWrongLength 0 ≡ false

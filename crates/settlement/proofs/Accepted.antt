@@ -8,6 +8,7 @@ use native.Mathlib.Omega.{arith}
 use lib.IntN.{ℤ}
 use borrow.Author.Tests.{ltb-false, not-false}
 use Rattle.numbers.specs.Limits.{mostCents}
+use Rattle.numbers.specs.Lists.{total}
 use Rattle.numbers.specs.Refusals.{firstRefusal}
 use Rattle.numbers.proofs.Refusals.{refusal-both}
 use Rattle.calendar.specs.Year.{hoursInYear, monthsInYear, isMonthEnd}
@@ -23,6 +24,7 @@ pub record HourAccepted (file : List ℕ) (prices : List ℤ) (collected : ℤ) 
   pub open-book : book .ended ≡ false
   pub not-due : isMonthEnd (book .hours) (book .months) ≡ false
   pub in-year : book .hours < hoursInYear
+  pub wants-most : total (wants (hourCall file prices collected) book) ≤ mostCents
   pub fund-most : fund (hourCall file prices collected) book ≤ mostSurplus
   pub carry : allShortfalls (bookAfter (hourCall file prices collected) book) ≤ mostCents
 
@@ -49,6 +51,7 @@ module _ (file : List ℕ) (prices : List ℤ) (collected : ℤ) (book : Book) (
         open-book = begun .1;
         not-due = turn .0;
         in-year = turn .1;
+        wants-most = size .0;
         fund-most = omega (arith, amount-most collected (calm-amount file prices collected (own .0)), size .1);
         carry = size .2;
       }

@@ -1,7 +1,7 @@
 -- Demand 3: the claim holds of every ledger.
 -- Assumes nothing.
 use Prim.Native.Nat.{ℕ, _<_}
-use mathlib.Core.Path.{_≡_, sym, subst, _∙_}
+use mathlib.Core.Path.{_≡_, refl, sym, subst, _∙_}
 use mathlib.Core.List.{List, [], _∷_}
 use native.Mathlib.Decide.{ℕ-discrete}
 use native.Mathlib.Nat.{le-antisymm}
@@ -13,6 +13,7 @@ use Rattle.numbers.proofs.Refusals.{answer-refused}
 use Rattle.calendar.specs.Year.{monthsInYear}
 use Rattle.settlement.specs.declared.Book.{Book}
 use Rattle.settlement.specs.declared.Settled.{Settled}
+use Rattle.settlement.specs.Book.{fresh}
 use Rattle.settlement.specs.Events.{Call, hourCall, monthEndCall, yearEndCall, wants, fund, lines, bookAfter, Answered}
 use Rattle.settlement.specs.Ledger.{Entry, bookAt, IsLedger}
 use Rattle.settlement.specs.Claim.{IsOwed, IsFund, Shared, Sound, SoundAtEach, Claim}
@@ -151,6 +152,15 @@ sound-all (entry ∷ past) answered =
     (sound-entry past entry (kept-all past (answered .1)) (answered .0), sound-all past (answered .1))
 
 -- ---- demand 3
+
+-- the book of a ledger, for those who make one
+pub book-at-start : bookAt [] ≡ fresh
+unfolding bookAt
+book-at-start = refl
+
+pub book-at-entry : (entry : Entry) (past : List Entry) → bookAt (entry ∷ past) ≡ entry .result .book
+unfolding bookAt
+book-at-entry entry past = refl
 
 pub claim : (ledger : List Entry) → IsLedger ledger → Claim ledger
 claim ledger answered =

@@ -1,4 +1,5 @@
 pub mod Accepted
+pub mod Amounts
 pub mod ClaimHolds
 pub mod EntryParts
 pub mod EveryList

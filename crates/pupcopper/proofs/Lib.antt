@@ -1,0 +1,7 @@
+pub mod BothWays
+pub mod Cells
+pub mod Class
+pub mod EventWords
+pub mod HostClaim
+pub mod ReportWords
+pub mod WordRows

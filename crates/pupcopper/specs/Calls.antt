@@ -1,0 +1,119 @@
+-- What the calls for hosts give: each is a call of the library with its values written into a report. The numbers of words are looked
+-- at before the library is called.
+-- Assumes nothing.
+use Prim.Native.Nat.{ℕ, _+_}
+use mathlib.Core.Path.{_≡_}
+use mathlib.Core.Bool.{Bool, true, false, cond, not}
+use mathlib.Core.List.{List, [], _∷_, _++_}
+use lib.Dec.{eqb}
+use lib.ListN.{length, getD}
+use lib.IntN.{ℤ, pos}
+use Rattle.numbers.specs.Refusals.{firstRefusal, _if_, answerBy}
+use Rattle.numbers.specs.Signs.{positive}
+use Rattle.calendar.specs.declared.OperatingHour.{OperatingHour}
+use Rattle.rights.specs.declared.Right.{Right}
+use Rattle.rights.specs.Layout.{reading}
+use Rattle.rights.specs.Reader.{isFinished, nextAfter}
+use Rattle.settlement.specs.Events.{Call, refusal, namesRecord, fund, demand, bookAfter, lines}
+use Rattle.pupcopper.specs.BookWords.{BookWords, wordsOf, bookFrom, isWrongCount, isWrongMark, isOverdrawn}
+
+-- the number of a call: that of its words, or the library's where they have none
+abbrev pub numberOf : ℕ → ℕ → ℕ
+numberOf own called = answerBy own called own
+
+-- ---- calls without a book
+
+-- a report of another number of words than the call's
+abbrev pub isWrongReport : ℕ → ℕ → Bool
+isWrongReport words report = not (eqb report words)
+
+-- 4, wrong length, and no other number
+unfoldable pub reportRefusal : ℕ → ℕ → ℕ
+reportRefusal words report = firstRefusal ((4 if isWrongReport words report) ∷ [])
+
+-- how many words each report has: an hour's three values; the eight fields of a right; those and a reader's two; one, a target call's
+-- record number; one, what a split leaves
+abbrev pub hourCount : ℕ
+hourCount = 3
+
+abbrev pub rightCount : ℕ
+rightCount = 8
+
+abbrev pub stepCount : ℕ
+stepCount = rightCount + 2
+
+abbrev pub outcomeCount : ℕ
+outcomeCount = 1
+
+abbrev pub allocationCount : ℕ
+allocationCount = 1
+
+-- the calendar call's values: "its day, its month and whether it is peak"
+abbrev pub hourWords : OperatingHour → List ℕ
+hourWords hour = hour .day ∷ hour .month ∷ cond (hour .peak) 1 0 ∷ []
+
+-- "the eight fields", in their order in the record
+abbrev pub rightWords : Right → List ℕ
+rightWords right =
+    right .owner
+    ∷ right .source
+    ∷ right .sink
+    ∷ right .kind
+    ∷ right .class
+    ∷ right .size
+    ∷ right .first
+    ∷ right .last
+    ∷ []
+
+-- a reader's step: the fields that it gives, where it then stands, and whether it "says there is none"
+abbrev pub stepWords : List ℕ → ℕ → List ℕ
+stepWords file next =
+    rightWords (reading file next .right) ++ (nextAfter file next ∷ cond (isFinished file next) 1 0 ∷ [])
+
+-- its number: none where it says that there is none, else the read's
+abbrev pub stepRefusal : List ℕ → ℕ → ℕ
+stepRefusal file next = cond (isFinished file next) 0 (reading file next .refusal)
+
+-- ---- the book
+
+-- opening a book
+unfoldable pub openRefusal : BookWords → ℕ
+openRefusal words = firstRefusal ((4 if isWrongCount words) ∷ [])
+
+-- an event's report: the record number, F and D
+abbrev pub settledWords : ℕ → ℕ → ℕ → List ℤ
+settledWords faulty fund demand = pos faulty ∷ pos fund ∷ pos demand ∷ []
+
+abbrev pub settledCount : ℕ
+settledCount = 3
+
+-- what the words of an event call for before there is a book: 4 for their number; 1, spoiled book, for a mark that is neither 0 nor 1
+-- and for a negative surplus
+unfoldable pub wordsRefusal : BookWords → ℕ → ℕ
+wordsRefusal words report =
+    firstRefusal
+    ((4 if isWrongCount words)
+    ∷ (4 if isWrongReport settledCount report)
+    ∷ (1 if isWrongMark words)
+    ∷ (1 if isOverdrawn words)
+    ∷ [])
+
+-- the refusal of an event, with a report of so many words and so many lines lent
+unfoldable pub eventRefusal : Call → BookWords → ℕ → ℕ → ℕ
+eventRefusal call words report places = numberOf (wordsRefusal words report) (refusal call (bookFrom words) places)
+
+-- the record number in a report
+abbrev pub recordIn : List ℤ → ℕ
+recordIn report = positive (getD report 0 (pos 0))
+
+-- what an event promises to a host: the number, the report, the words of the book and the lines after it, for any words, any report
+-- and any lines. Accepted: as the event of the book that the words stand for. Refused: nothing is written but the report
+pub record Settles (call : Call) (words : BookWords) (report lent : List ℤ) (number : ℕ) (wordsAfter : BookWords) (reportAfter linesAfter : List ℤ)
+    : Type 0 where
+  pub refused : number ≡ eventRefusal call words (length report) (length lent)
+  pub names : isWrongReport settledCount (length report) ≡ false → namesRecord call number (recordIn reportAfter) ≡ true
+  pub reports : reportAfter
+      ≡ cond (isWrongReport settledCount (length report)) report
+      (settledWords (recordIn reportAfter) (answerBy number (fund call (bookFrom words)) 0) (answerBy number (demand call (bookFrom words)) 0))
+  pub givesBook : wordsAfter ≡ answerBy number (wordsOf (bookAfter call (bookFrom words))) words
+  pub writesLines : linesAfter ≡ answerBy number (lines call (bookFrom words)) lent

@@ -1,0 +1,5 @@
+pub mod Billing
+pub mod BookWords
+pub mod Calls
+pub mod HostLedger
+pub mod InnerContracts
