@@ -2,12 +2,12 @@
 -- those words.
 -- Assumes nothing.
 use Prim.Native.Nat.{ℕ, zero, suc, _+_, _*_, _/_, _%_, _<_, _≤_}
-use mathlib.Core.Path.{_≡_, refl, sym, ap, subst, _∙_}
-use mathlib.Core.Bool.{Bool, true, false, cond, _||_}
+use mathlib.Core.Path.{_≡_, refl, sym, ap, _∙_}
+use mathlib.Core.Bool.{Bool, true, false, cond}
 use mathlib.Core.List.{List, [], _∷_}
 use native.Mathlib.Decide.{ℕ-discrete}
 use native.Mathlib.Omega.{arith}
-use lib.Dec.{ltb, eqb}
+use lib.Dec.{eqb}
 use lib.ListN.{length, getD}
 use lib.IntN.{ℤ, pos, negsuc}
 use lib.Signed.{ltZ}
@@ -16,7 +16,7 @@ use Rattle.numbers.specs.Limits.{owners}
 use Rattle.numbers.specs.Lists.{listBelow}
 use Rattle.numbers.specs.Signs.{positive}
 use Rattle.numbers.proofs.Booleans.{neither-true}
-use Rattle.numbers.proofs.Counts.{length-listBelow, getD-listBelow, listBelow-getD, listBelow-ext}
+use Rattle.numbers.proofs.Counts.{getD-listBelow, listBelow-getD, listBelow-ext}
 use Rattle.settlement.specs.declared.Book.{Book}
 use Rattle.pupcopper.specs.BookWords.{BookWords, wordsIn, shortfallWords, countsOf, cellAt, byOwner, surplusesOf, wordsOf, surplusIn, cellsFrom, bookFrom, markIn, isWrongCount, isWrongMark, isOverdrawn}
 use Rattle.pupcopper.proofs.Cells.{month-cell, year-cell}

@@ -1,6 +1,6 @@
 -- An event over the words of a book: refused by its words, or the event of the book that they stand for.
 -- Assumes nothing.
-use Prim.Native.Nat.{ℕ, _^_, _≤_, _<_}
+use Prim.Native.Nat.{ℕ, _^_, _<_}
 use mathlib.Core.Path.{_≡_, sym, ap, subst, _∙_}
 use mathlib.Core.Bool.{Bool, true, false, cond}
 use mathlib.Core.List.{List}
@@ -41,7 +41,7 @@ module _ (call : Call) (words : BookWords) (report lent : List ℤ) where
   unfolding eventRefusal
   refused-event number reportAfter is some written =
       record {
-        refused = is ∙ sym (answer-refused own _ own (λ z. some (is ∙ z)));
+        number = is ∙ sym (answer-refused own _ own (λ z. some (is ∙ z)));
         names =
             λ fits.
             subst (λ (r : List ℤ). namesRecord call number (recordIn r) ≡ true)
@@ -95,7 +95,7 @@ module _ (call : Call) (words : BookWords) (report lent : List ℤ) where
     unfolding eventRefusal
     settled-event number wordsAfter reportAfter clear is written kept =
         record {
-          refused = same ∙ sym (answer-accepted own number-of own clear);
+          number = same ∙ sym (answer-accepted own number-of own clear);
           names =
               λ fits.
               subst (λ (r : List ℤ). namesRecord call number (recordIn r) ≡ true) (sym written)

@@ -18,13 +18,14 @@ use Rattle.numbers.proofs.Refusals.{answer-accepted, answer-refused}
 use Rattle.settlement.specs.declared.Book.{Book}
 use Rattle.settlement.specs.Book.{fresh}
 use Rattle.settlement.specs.Events.{Call, fund, demand, bookAfter, lines, refusal, Answered}
-use Rattle.settlement.specs.Ledger.{Entry, bookAt, IsLedger}
+use Rattle.settlement.specs.Ledger.{bookAt, IsLedger}
 use Rattle.settlement.specs.Claim.{Claim}
 use Rattle.settlement.proofs.ClaimHolds.{claim, book-at-start, book-at-entry}
 use Rattle.settlement.proofs.Kept.{kept-fresh}
-use Rattle.settlement.proofs.Shares.{IsLong, long-after}
+use Rattle.settlement.proofs.SameCells.{long-after}
+use Rattle.settlement.proofs.Shares.{IsLong}
 use Rattle.pupcopper.specs.BookWords.{BookWords, shortfallWords, countsOf, byOwner, surplusesOf, wordsOf, cellsFrom, bookFrom, isNoBook, isWrongCount, isWrongMark, isOverdrawn}
-use Rattle.pupcopper.specs.Calls.{numberOf, isWrongReport, settledCount, settledWords, wordsRefusal, eventRefusal, recordIn, Settles}
+use Rattle.pupcopper.specs.Calls.{numberOf, isWrongReport, settledCount, settledWords, eventRefusal, recordIn, Settles}
 use Rattle.pupcopper.specs.HostLedger.{HostEntry, wordsAt, IsHostList, entryOf, ledgerOf}
 use Rattle.pupcopper.proofs.BothWays.{book-back}
 use Rattle.pupcopper.proofs.WordRows.{wrong-report, good-words}
@@ -73,14 +74,14 @@ module _ (entry : HostEntry) (words : BookWords) (good : Good words)
     unfolding eventRefusal
     unchanged wrong =
         let own = wrong-report words (length (entry .report)) (good .counted) wrong in
-        let is-4 = settles .refused ∙ ap (λ (n : ℕ). numberOf n (refusal call book (length (entry .lent)))) (sym own) in
+        let is-4 = settles .number ∙ ap (λ (n : ℕ). numberOf n (refusal call book (length (entry .lent)))) (sym own) in
         settles .givesBook ∙ answer-refused number (wordsOf (bookAfter call book)) words (λ z. omega (arith, is-4, z))
 
     module _ (fits : isWrongReport settledCount (length (entry .report)) ≡ false) where
       number-is : number ≡ refusal call book (length (entry .lent))
       unfolding eventRefusal
       number-is =
-          settles .refused
+          settles .number
           ∙ answer-accepted _ _ _ (sym (good-words words (length (entry .report)) (good .counted) fits (good .marked) (good .drawn)))
 
       by-number : {A : Type 0} (accepted refused : A)

@@ -3,15 +3,14 @@
 use Prim.Native.Nat.{ℕ, _≤_}
 use mathlib.Core.Path.{_≡_, refl, sym, _∙_}
 use mathlib.Core.Bool.{true, false, _&&_}
-use mathlib.Core.List.{[], _∷_}
+use mathlib.Core.List.{[]}
 use native.Mathlib.Omega.{arith}
-use lib.Dec.{ltb, eqb}
+use lib.Dec.{eqb}
 use lib.ListN.{length}
 use borrow.Author.Tests.{eqb-true, not-false}
-use Rattle.numbers.specs.Refusals.{firstRefusal, _if_}
 use Rattle.numbers.proofs.Booleans.{both-true}
 use Rattle.numbers.proofs.Refusals.{refusal-none, refusal-here, refusal-next, refusal-clear, refusal-most}
-use Rattle.pupcopper.specs.BookWords.{BookWords, countWords, shortfallWords, surplusWords, isNoBook, isWrongCount, isWrongMark, isOverdrawn}
+use Rattle.pupcopper.specs.BookWords.{BookWords, countWords, shortfallWords, surplusWords, isWrongCount, isWrongMark, isOverdrawn}
 use Rattle.pupcopper.specs.Calls.{isWrongReport, settledCount, wordsRefusal, openRefusal}
 
 -- so many words are a book's

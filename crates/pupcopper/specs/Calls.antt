@@ -108,12 +108,12 @@ recordIn report = positive (getD report 0 (pos 0))
 
 -- what an event promises to a host: the number, the report, the words of the book and the lines after it, for any words, any report
 -- and any lines. Accepted: as the event of the book that the words stand for. Refused: nothing is written but the report
-pub record Settles (call : Call) (words : BookWords) (report lent : List ℤ) (number : ℕ) (wordsAfter : BookWords) (reportAfter linesAfter : List ℤ)
+pub record Settles (call : Call) (words : BookWords) (report lent : List ℤ) (given : ℕ) (wordsAfter : BookWords) (reportAfter linesAfter : List ℤ)
     : Type 0 where
-  pub refused : number ≡ eventRefusal call words (length report) (length lent)
-  pub names : isWrongReport settledCount (length report) ≡ false → namesRecord call number (recordIn reportAfter) ≡ true
+  pub number : given ≡ eventRefusal call words (length report) (length lent)
+  pub names : isWrongReport settledCount (length report) ≡ false → namesRecord call given (recordIn reportAfter) ≡ true
   pub reports : reportAfter
       ≡ cond (isWrongReport settledCount (length report)) report
-      (settledWords (recordIn reportAfter) (answerBy number (fund call (bookFrom words)) 0) (answerBy number (demand call (bookFrom words)) 0))
-  pub givesBook : wordsAfter ≡ answerBy number (wordsOf (bookAfter call (bookFrom words))) words
-  pub writesLines : linesAfter ≡ answerBy number (lines call (bookFrom words)) lent
+      (settledWords (recordIn reportAfter) (answerBy given (fund call (bookFrom words)) 0) (answerBy given (demand call (bookFrom words)) 0))
+  pub givesBook : wordsAfter ≡ answerBy given (wordsOf (bookAfter call (bookFrom words))) words
+  pub writesLines : linesAfter ≡ answerBy given (lines call (bookFrom words)) lent

@@ -12,6 +12,7 @@ use borrow.Author.Tests.{lt-ltb, eqb-false}
 use Rattle.numbers.specs.Limits.{owners}
 use Rattle.numbers.specs.Lists.{total, listBelow}
 use Rattle.numbers.specs.Signs.{positive, negative}
+use Rattle.numbers.proofs.Counts.{length-listBelow}
 use Rattle.calendar.specs.Year.{monthsInYear, monthEnd, isMonthEnd}
 use Rattle.target.specs.Target.{target}
 use Rattle.target.proofs.Answer.{target-at}
@@ -21,7 +22,7 @@ use Rattle.settlement.specs.declared.Settled.{Settled}
 use Rattle.settlement.specs.Book.{monthShort}
 use Rattle.settlement.specs.Events.{Call, hourCall, nextTargets, targetOf, hourCharges, wants, fund, addedTo, bookAfter}
 use Rattle.settlement.specs.Ledger.{Entry, bookAt, hourCount, monthEndCount, yearEndCount, positiveTarget, credit, hourCredit, charge, collection, ofAll}
-use Rattle.settlement.proofs.Shares.{long-after, wanted, paidTo, unpaid, wants-long, added-at, unpaid-paid, paid-closes, left-most, hour-wanted, charge-is}
+use Rattle.settlement.proofs.Shares.{wanted, paidTo, unpaid, wants-long, added-at, unpaid-paid, paid-closes, left-most, hour-wanted, charge-is}
 use Rattle.settlement.proofs.Sane.{Sane}
 use Rattle.settlement.proofs.Accepted.{HourAccepted}
 use Rattle.settlement.proofs.EntryParts.{Parts, over-next, since-next, all-is}
@@ -93,7 +94,7 @@ module _ (past : List Entry) (file : List ℕ) (prices : List ℤ) (collected : 
     unfolding bookAfter addedTo
     kept-hour =
         record {
-          long = long-after call book (kept .long);
+          long = record { month = length-listBelow _ owners; year = kept .long .year };
           sane = sane-after;
           hours = omega (arith, kept .hours, over-next hourCount hourEntry past, parts .hour);
           months = omega (arith, kept .months, over-next monthEndCount hourEntry past, parts .month);

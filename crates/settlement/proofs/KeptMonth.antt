@@ -8,7 +8,7 @@ use native.Mathlib.Nat.{le-of-eq}
 use native.Mathlib.Numerals.{add-one}
 use native.Mathlib.Omega.{arith}
 use lib.Dec.{ltb, eqb}
-use lib.ListN.{getD, replicate, getD-replicate}
+use lib.ListN.{getD, replicate, getD-replicate, length-replicate}
 use lib.IntN.{ℤ}
 use borrow.Author.Tests.{ltb-true, eqb-true}
 use Rattle.numbers.specs.Limits.{owners}
@@ -23,7 +23,7 @@ use Rattle.settlement.specs.Book.{monthShort, yearShort}
 use Rattle.settlement.specs.Events.{monthEndCall, wants, fund, paid, unpaidOf, addedTo, bookAfter}
 use Rattle.settlement.specs.Ledger.{Entry, bookAt, hourCount, monthEndCount, yearEndCount, positiveTarget, credit, hourCredit, charge, collection, ofAll}
 use Rattle.settlement.proofs.Paying.{unpaid-small, added-total}
-use Rattle.settlement.proofs.Shares.{long-after, paidTo, unpaid, leftOver, wants-long, added-at, unpaid-paid, paid-closes, left-most}
+use Rattle.settlement.proofs.Shares.{paidTo, unpaid, leftOver, wants-long, added-at, unpaid-paid, paid-closes, left-most}
 use Rattle.settlement.proofs.Sane.{Sane}
 use Rattle.settlement.proofs.EntryParts.{Parts, over-next, since-closed, none-of-all}
 use Rattle.settlement.proofs.Kept.{Kept}
@@ -97,7 +97,7 @@ module _ (past : List Entry) (lent : List ℤ) (result : Settled) (written : Lis
     unfolding bookAfter addedTo
     kept-month =
         record {
-          long = long-after monthEndCall book (kept .long);
+          long = record { month = length-replicate {A = ℕ} owners 0; year = length-listBelow _ owners };
           sane = sane-after;
           hours = omega (arith, kept .hours, over-next hourCount monthEntry past, parts .hour);
           months = omega (arith, kept .months, over-next monthEndCount monthEntry past, parts .month);

@@ -13,6 +13,7 @@ use lib.IntN.{ℤ}
 use borrow.Author.Tests.{leb-true, leb-false, le-ltb}
 use Rattle.numbers.specs.Limits.{owners}
 use Rattle.numbers.specs.Lists.{total, listBelow}
+use Rattle.numbers.proofs.Counts.{length-listBelow}
 use Rattle.calendar.specs.Year.{monthsInYear}
 use Rattle.settlement.specs.declared.Book.{Book}
 use Rattle.settlement.specs.declared.Settled.{Settled}
@@ -20,7 +21,7 @@ use Rattle.settlement.specs.Book.{yearShort, openShortfall, isShort, fun
 use Rattle.settlement.specs.Events.{yearEndCall, wants, fund, demand, paid, unpaidOf, bookAfter}
 use Rattle.settlement.specs.Ledger.{Entry, bookAt, hourCount, monthEndCount, yearEndCount, positiveTarget, credit, hourCredit, charge, collection, ofAll}
 use Rattle.settlement.proofs.Paying.{unpaid-small}
-use Rattle.settlement.proofs.Shares.{long-after, paidTo, unpaid, leftOver, wants-long, unpaid-paid, paid-closes, left-most, all-paid, none-left}
+use Rattle.settlement.proofs.Shares.{paidTo, unpaid, leftOver, wants-long, unpaid-paid, paid-closes, left-most, all-paid, none-left}
 use Rattle.settlement.proofs.Sane.{Sane}
 use Rattle.settlement.proofs.EntryParts.{Parts, over-next, since-next, none-of-all}
 use Rattle.settlement.proofs.Kept.{Kept}
@@ -97,7 +98,7 @@ module _ (past : List Entry) (lent : List ℤ) (result : Settled) (written : Lis
     unfolding bookAfter unpaidOf
     kept-year =
         record {
-          long = long-after yearEndCall book (kept .long);
+          long = record { month = kept .long .month; year = length-listBelow _ owners };
           sane = sane-after;
           hours = omega (arith, kept .hours, over-next hourCount yearEntry past, parts .hour);
           months = omega (arith, kept .months, over-next monthEndCount yearEntry past, parts .month);

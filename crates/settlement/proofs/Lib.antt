@@ -12,6 +12,7 @@ pub mod NeverStuck
 pub mod NotSpoiled
 pub mod Paying
 pub mod Refusing
+pub mod SameCells
 pub mod Sane
 pub mod Shares
 pub mod SharingOut

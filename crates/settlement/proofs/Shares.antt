@@ -4,16 +4,16 @@ use Prim.Native.Nat.{ℕ, _+_, _-_, _≤_, _<_}
 use mathlib.Core.Path.{_≡_, refl, sym, ap, subst, _∙_}
 use mathlib.Core.List.{List}
 use native.Mathlib.Omega.{arith}
-use lib.ListN.{length, getD, length-replicate}
+use lib.ListN.{length, getD}
 use lib.IntN.{ℤ, pos, negsuc}
 use Rattle.numbers.specs.Limits.{owners}
 use Rattle.numbers.specs.Lists.{total, listBelow}
 use Rattle.numbers.specs.Signs.{positive, negative}
-use Rattle.numbers.proofs.Counts.{getD-listBelow, length-listBelow}
+use Rattle.numbers.proofs.Counts.{getD-listBelow}
 use Rattle.split.specs.Split.{WithinACent, payments, left}
 use Rattle.split.proofs.Laws.{payments-length, payment-at, payments-at-most, closes, closes-enough, nothing-left, within-a-cent}
 use Rattle.settlement.specs.declared.Book.{Book}
-use Rattle.settlement.specs.Events.{Call, hourCall, monthEndCall, yearEndCall, nextTargets, targetOf, hourWants, wants, fund, demand, paid, hourLine, hourLines, paymentLines, lines, unpaidOf, addedTo, bookAfter}
+use Rattle.settlement.specs.Events.{Call, hourCall, monthEndCall, yearEndCall, nextTargets, targetOf, hourWants, wants, fund, demand, paid, hourLine, hourLines, paymentLines, lines, unpaidOf, addedTo}
 use Rattle.settlement.proofs.Paying.{same-cells, left-small}
 use Rattle.settlement.proofs.SharingOut.{wants-length}
 
@@ -128,10 +128,3 @@ unfolding lines paymentLines
 credit-is (hourCall file prices collected) book owner inside = hour-credit-is file prices collected book owner inside
 credit-is monthEndCall book owner inside = ap positive (getD-listBelow _ owners (pos 0) owner inside)
 credit-is yearEndCall book owner inside = ap positive (getD-listBelow _ owners (pos 0) owner inside)
-
--- the book after an event has as many cells
-pub long-after : (call : Call) (book : Book) → IsLong book → IsLong (bookAfter call book)
-unfolding bookAfter addedTo unpaidOf
-long-after (hourCall file prices collected) book long = record { month = length-listBelow _ owners; year = long .year }
-long-after monthEndCall book long = record { month = length-replicate {A = ℕ} owners 0; year = length-listBelow _ owners }
-long-after yearEndCall book long = record { month = long .month; year = length-listBelow _ owners }

@@ -1,6 +1,6 @@
 -- `pupcopper::pupcopper_read` meets its contract: the read's number, and its fields in the report.
 -- Assumes nothing.
-use mathlib.Core.Path.{_≡_, ap, _∙_}
+use mathlib.Core.Path.{ap, _∙_}
 use borrow.Author.Needs.{needs}
 use Rattle.rights.specs.declared.Reading.{Reading}
 use Rattle.pupcopper.specs.Calls.{rightWords}

@@ -1,6 +1,6 @@
 -- `pupcopper::pupcopper_split` meets its contract: the split's number and payments, and what is left in the report.
 -- Assumes nothing.
-use mathlib.Core.Path.{_≡_, ap, _∙_}
+use mathlib.Core.Path.{ap, _∙_}
 use mathlib.Core.List.{[], _∷_}
 use borrow.Author.Needs.{needs}
 use Rattle.split.specs.declared.Allocation.{Allocation}

@@ -1,8 +1,7 @@
 -- `pupcopper::book_words::book_from` meets its contract, field by field.
 -- Assumes nothing.
 use native.Mathlib.Omega.{arith}
-use mathlib.Core.Path.{_≡_, ap, _∙_}
-use lib.IntN.{ℤ}
+use mathlib.Core.Path.{ap, _∙_}
 use mir.Syntax.{w64}
 use mir.ValLaws.{toZ-ofZ}
 use borrow.Author.Needs.{needs}

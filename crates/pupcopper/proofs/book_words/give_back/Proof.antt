@@ -1,6 +1,6 @@
 -- `pupcopper::book_words::give_back` meets its contract: the report always, the words of an accepted event's book.
 -- Assumes nothing.
-use mathlib.Core.Path.{_≡_, refl, sym, _∙_}
+use mathlib.Core.Path.{refl, sym, _∙_}
 use borrow.Author.Needs.{needs}
 use Rattle.numbers.proofs.Refusals.{answer-accepted, answer-refused}
 use Rattle.pupcopper.specs.BookWords.{wordsIn}

@@ -1,7 +1,7 @@
 -- `pupcopper::book_words::write_book` meets its contract: three counts, two cells for each owner, two surpluses.
 -- Assumes nothing.
 use native.Mathlib.Omega.{arith}
-use mathlib.Core.Path.{_≡_, _∙_}
+use mathlib.Core.Path.{_∙_}
 use mathlib.Core.List.{[], _∷_}
 use lib.ListN.{length-set}
 use mir.Syntax.{w64}

@@ -1,7 +1,7 @@
 -- `pupcopper::book_words::write_cells` meets its contract: two places passed for each owner passed.
 -- Assumes nothing.
 use native.Mathlib.Omega.{arith}
-use Prim.Native.Nat.{ℕ, _+_, _-_, _*_, _≤_}
+use Prim.Native.Nat.{_-_, _*_, _≤_}
 use mathlib.Core.Path.{_≡_, refl}
 use lib.ListN.{length, take, length-set}
 use Rattle.numbers.specs.Limits.{owners}
