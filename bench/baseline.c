@@ -202,7 +202,8 @@ static int is_spoiled(const struct book *b) {
     return b->month_surplus > most || b->year_surplus > most - b->month_surplus;
 }
 
-static int settle_hour(struct book *b, const int32_t *prices, int64_t collected, int64_t *lines) {
+/* The refusals that come before the rights are looked at: 1 to 6, or 0. */
+static int early_refusal(const struct book *b, const int32_t *prices, int64_t collected) {
     if (is_spoiled(b)) {
         return 1;
     }
@@ -222,11 +223,15 @@ static int settle_hour(struct book *b, const int32_t *prices, int64_t collected,
     if (wild) {
         return 5;
     }
-    if (collected < 0 || collected > MOST_AMOUNT) {
-        return 6;
-    }
+    return collected < 0 || collected > MOST_AMOUNT ? 6 : 0;
+}
+
+static int settle_hour(struct book *b, const int32_t *prices, int64_t collected, int64_t *lines) {
     int64_t sums[OWNERS] = {0};
-    int refusal = add_rights(prices, b->hours, sums);
+    int refusal = early_refusal(b, prices, collected);
+    if (refusal == 0) {
+        refusal = add_rights(prices, b->hours, sums);
+    }
     if (refusal != 0) {
         return refusal;
     }

@@ -15,7 +15,7 @@ use Rattle.settlement.specs.declared.Settled.{Settled}
 use Rattle.settlement.specs.Events.{Call, fund, demand, bookAfter, lines, refusal, namesRecord, Answered}
 use Rattle.settlement.proofs.Amounts.{small-amounts, records, named-within, names-none}
 use Rattle.pupcopper.specs.BookWords.{BookWords, wordsOf, bookFrom}
-use Rattle.pupcopper.specs.Calls.{isWrongReport, settledWords, settledCount, wordsRefusal, eventRefusal, recordIn, Settles}
+use Rattle.pupcopper.specs.Calls.{isWrongReport, settledReport, settledWords, wordsRefusal, eventRefusal, recordIn, Settles}
 use Rattle.pupcopper.specs.InnerContracts.{SurplusesFit, ResultFits}
 use Rattle.pupcopper.proofs.WordRows.{words-clear, words-most}
 
@@ -29,14 +29,14 @@ module _ (call : Call) (words : BookWords) (report lent : List ℤ) where
   -- ---- refused by its words
 
   -- a report that is written, if it has its places
-  zeros : (wrong : Bool) (after : List ℤ) (f d : ℕ) → f ≡ 0 → d ≡ 0 → after ≡ cond wrong report (settledWords 0 0 0)
-      → after ≡ cond wrong report (settledWords (recordIn after) f d)
+  zeros : (wrong : Bool) (after : List ℤ) (f d : ℕ) → f ≡ 0 → d ≡ 0 → after ≡ cond wrong report (settledReport 0 0 0)
+      → after ≡ cond wrong report (settledReport (recordIn after) f d)
   zeros true after f d no-fund no-demand written = written
   zeros false after f d no-fund no-demand written =
-      written ∙ (λ i. settledWords (sym (ap recordIn written) i) (sym no-fund i) (sym no-demand i))
+      written ∙ (λ i. settledReport (sym (ap recordIn written) i) (sym no-fund i) (sym no-demand i))
 
   pub refused-event : (number : ℕ) (reportAfter : List ℤ) → number ≡ own → (number ≡ 0 → ⊥)
-      → reportAfter ≡ cond (isWrongReport settledCount (length report)) report (settledWords 0 0 0)
+      → reportAfter ≡ cond (isWrongReport settledWords (length report)) report (settledReport 0 0 0)
       → Settles call words report lent number words reportAfter lent
   unfolding eventRefusal
   refused-event number reportAfter is some written =
@@ -45,10 +45,10 @@ module _ (call : Call) (words : BookWords) (report lent : List ℤ) where
         names =
             λ fits.
             subst (λ (r : List ℤ). namesRecord call number (recordIn r) ≡ true)
-            (sym (written ∙ ap (λ (wrong : Bool). cond wrong report (settledWords 0 0 0)) fits))
+            (sym (written ∙ ap (λ (wrong : Bool). cond wrong report (settledReport 0 0 0)) fits))
             (names-none call number (omega (arith, is, words-most words (length report))));
         reports =
-            zeros (isWrongReport settledCount (length report)) reportAfter _ _ (answer-refused number (fund call book) 0 some) (answer-refused number (demand call book) 0 some)
+            zeros (isWrongReport settledWords (length report)) reportAfter _ _ (answer-refused number (fund call book) 0 some) (answer-refused number (demand call book) 0 some)
             written;
         givesBook = sym (answer-refused number _ words some);
         writesLines = sym (answer-refused number _ lent some);
@@ -89,7 +89,7 @@ module _ (call : Call) (words : BookWords) (report lent : List ℤ) where
         }
 
     pub settled-event : (number : ℕ) (wordsAfter : BookWords) (reportAfter : List ℤ) → own ≡ 0 → number ≡ result .refusal
-        → reportAfter ≡ settledWords (result .faulty) (result .fund) (result .demand)
+        → reportAfter ≡ settledReport (result .faulty) (result .fund) (result .demand)
         → wordsAfter ≡ answerBy number (wordsOf (result .book)) words
         → Settles call words report lent number wordsAfter reportAfter linesAfter
     unfolding eventRefusal
@@ -102,8 +102,8 @@ module _ (call : Call) (words : BookWords) (report lent : List ℤ) where
               (subst (λ (n : ℕ). namesRecord call n (result .faulty) ≡ true) (sym is) (answered .names));
           reports =
               written
-              ∙ (λ i. settledWords (sym (ap recordIn written) i) ((answered .reportsFund ∙ by-number (fund call book) 0) i) ((answered .reportsDemand ∙ by-number (demand call book) 0) i))
-              ∙ sym (ap (λ (wrong : Bool). cond wrong report (settledWords (recordIn reportAfter) (answerBy number (fund call book) 0) (answerBy number (demand call book) 0))) (words-clear words (length report) clear .1));
+              ∙ (λ i. settledReport (sym (ap recordIn written) i) ((answered .reportsFund ∙ by-number (fund call book) 0) i) ((answered .reportsDemand ∙ by-number (demand call book) 0) i))
+              ∙ sym (ap (λ (wrong : Bool). cond wrong report (settledReport (recordIn reportAfter) (answerBy number (fund call book) 0) (answerBy number (demand call book) 0))) (words-clear words (length report) clear .1));
           givesBook = kept ∙ words-of (ℕ-discrete number 0);
           writesLines = answered .writesLines ∙ by-number (lines call book) lent;
         }

@@ -25,7 +25,7 @@ use Rattle.settlement.proofs.Kept.{kept-fresh}
 use Rattle.settlement.proofs.SameCells.{long-after}
 use Rattle.settlement.proofs.Shares.{IsLong}
 use Rattle.pupcopper.specs.BookWords.{BookWords, shortfallWords, countsOf, byOwner, surplusesOf, wordsOf, cellsFrom, bookFrom, isNoBook, isWrongCount, isWrongMark, isOverdrawn}
-use Rattle.pupcopper.specs.Calls.{numberOf, isWrongReport, settledCount, settledWords, eventRefusal, recordIn, Settles}
+use Rattle.pupcopper.specs.Calls.{numberOf, isWrongReport, settledWords, settledReport, eventRefusal, recordIn, Settles}
 use Rattle.pupcopper.specs.HostLedger.{HostEntry, wordsAt, IsHostList, entryOf, ledgerOf}
 use Rattle.pupcopper.proofs.BothWays.{book-back}
 use Rattle.pupcopper.proofs.WordRows.{wrong-report, good-words}
@@ -70,14 +70,14 @@ module _ (entry : HostEntry) (words : BookWords) (good : Good words)
     number = entry .number
 
     -- with a report of another length nothing changes
-    unchanged : isWrongReport settledCount (length (entry .report)) ≡ true → entry .words ≡ words
+    unchanged : isWrongReport settledWords (length (entry .report)) ≡ true → entry .words ≡ words
     unfolding eventRefusal
     unchanged wrong =
         let own = wrong-report words (length (entry .report)) (good .counted) wrong in
         let is-4 = settles .number ∙ ap (λ (n : ℕ). numberOf n (refusal call book (length (entry .lent)))) (sym own) in
         settles .givesBook ∙ answer-refused number (wordsOf (bookAfter call book)) words (λ z. omega (arith, is-4, z))
 
-    module _ (fits : isWrongReport settledCount (length (entry .report)) ≡ false) where
+    module _ (fits : isWrongReport settledWords (length (entry .report)) ≡ false) where
       number-is : number ≡ refusal call book (length (entry .lent))
       unfolding eventRefusal
       number-is =
@@ -101,10 +101,10 @@ module _ (entry : HostEntry) (words : BookWords) (good : Good words)
               ap bookFrom (settles .givesBook ∙ answer-refused number (wordsOf (bookAfter call book)) words some)
               ∙ sym (answer-refused number (bookAfter call book) book some)
 
-      report-is : entry .reported ≡ settledWords (recordIn (entry .reported)) (answerBy number (fund call book) 0) (answerBy number (demand call book) 0)
+      report-is : entry .reported ≡ settledReport (recordIn (entry .reported)) (answerBy number (fund call book) 0) (answerBy number (demand call book) 0)
       report-is =
           settles .reports
-          ∙ ap (λ (wrong : Bool). cond wrong (entry .report) (settledWords (recordIn (entry .reported)) (answerBy number (fund call book) 0) (answerBy number (demand call book) 0))) fits
+          ∙ ap (λ (wrong : Bool). cond wrong (entry .report) (settledReport (recordIn (entry .reported)) (answerBy number (fund call book) 0) (answerBy number (demand call book) 0))) fits
 
       -- the call is an entry on the book that the words stand for
       is-entry : Answered call book (entry .lent) (entryOf entry .result) (entry .written)
@@ -145,16 +145,16 @@ unfolding wordsAt ledgerOf
 kept-next entry past kept settles =
     record {
       sound = good-after entry (wordsAt past) (kept .sound) settles;
-      same = same-next (isWrongReport settledCount (length (entry .report))) refl;
-      ledger = ledger-next (isWrongReport settledCount (length (entry .report))) refl;
+      same = same-next (isWrongReport settledWords (length (entry .report))) refl;
+      ledger = ledger-next (isWrongReport settledWords (length (entry .report))) refl;
     }
   where
-    same-next : (wrong : Bool) → isWrongReport settledCount (length (entry .report)) ≡ wrong
+    same-next : (wrong : Bool) → isWrongReport settledWords (length (entry .report)) ≡ wrong
         → bookAt (cond wrong (ledgerOf past) (entryOf entry ∷ ledgerOf past)) ≡ bookFrom (entry .words)
     same-next true wrong = kept .same ∙ ap bookFrom (sym (unchanged entry (wordsAt past) (kept .sound) settles wrong))
     same-next false fits = book-at-entry (entryOf entry) (ledgerOf past)
 
-    ledger-next : (wrong : Bool) → isWrongReport settledCount (length (entry .report)) ≡ wrong
+    ledger-next : (wrong : Bool) → isWrongReport settledWords (length (entry .report)) ≡ wrong
         → IsLedger (cond wrong (ledgerOf past) (entryOf entry ∷ ledgerOf past))
     ledger-next true wrong = kept .ledger
     ledger-next false fits = (

@@ -11,7 +11,7 @@ use borrow.Author.Tests.{eqb-true, not-false}
 use Rattle.numbers.proofs.Booleans.{both-true}
 use Rattle.numbers.proofs.Refusals.{refusal-none, refusal-here, refusal-next, refusal-clear, refusal-most}
 use Rattle.pupcopper.specs.BookWords.{BookWords, countWords, shortfallWords, surplusWords, isWrongCount, isWrongMark, isOverdrawn}
-use Rattle.pupcopper.specs.Calls.{isWrongReport, settledCount, wordsRefusal, openRefusal}
+use Rattle.pupcopper.specs.Calls.{isWrongReport, settledWords, wordsRefusal, openRefusal}
 
 -- so many words are a book's
 pub record Long (words : BookWords) : Type 0 where
@@ -47,11 +47,11 @@ module _ (words : BookWords) (report : ℕ) where
   wrong-count wrong = sym (refusal-here 4 _ wrong)
 
   module _ (right : isWrongCount words ≡ false) where
-    pub wrong-report : isWrongReport settledCount report ≡ true → 4 ≡ wordsRefusal words report
+    pub wrong-report : isWrongReport settledWords report ≡ true → 4 ≡ wordsRefusal words report
     unfolding wordsRefusal
     wrong-report wrong = sym (refusal-next 4 _ right ∙ refusal-here 4 _ wrong)
 
-    module _ (fits : isWrongReport settledCount report ≡ false) where
+    module _ (fits : isWrongReport settledWords report ≡ false) where
       pub wrong-mark : isWrongMark words ≡ true → 1 ≡ wordsRefusal words report
       unfolding wordsRefusal
       wrong-mark wrong = sym (refusal-next 4 _ right ∙ refusal-next 4 _ fits ∙ refusal-here 1 _ wrong)
@@ -70,11 +70,11 @@ module _ (words : BookWords) (report : ℕ) where
 
   -- none of them: the words are a book's, and the report has its places
   pub words-clear : wordsRefusal words report ≡ 0
-      → (isWrongCount words ≡ false) × (isWrongReport settledCount report ≡ false) × (isWrongMark words ≡ false) × (isOverdrawn words ≡ false)
+      → (isWrongCount words ≡ false) × (isWrongReport settledWords report ≡ false) × (isWrongMark words ≡ false) × (isOverdrawn words ≡ false)
   unfolding wordsRefusal
   words-clear clear =
       let r1 = refusal-clear 4 (isWrongCount words) _ (omega arith) clear in
-      let r2 = refusal-clear 4 (isWrongReport settledCount report) _ (omega arith) (r1 .1) in
+      let r2 = refusal-clear 4 (isWrongReport settledWords report) _ (omega arith) (r1 .1) in
       let r3 = refusal-clear 1 (isWrongMark words) _ (omega arith) (r2 .1) in
       let r4 = refusal-clear 1 (isOverdrawn words) [] (omega arith) (r3 .1) in
       (r1 .0, r2 .0, r3 .0, r4 .0)

@@ -33,28 +33,28 @@ reportRefusal words report = firstRefusal ((4 if isWrongReport words report) ∷
 
 -- how many words each report has: an hour's three values; the eight fields of a right; those and a reader's two; one, a target call's
 -- record number; one, what a split leaves
-abbrev pub hourCount : ℕ
-hourCount = 3
+abbrev pub hourWords : ℕ
+hourWords = 3
 
-abbrev pub rightCount : ℕ
-rightCount = 8
+abbrev pub rightWords : ℕ
+rightWords = 8
 
-abbrev pub stepCount : ℕ
-stepCount = rightCount + 2
+abbrev pub stepWords : ℕ
+stepWords = rightWords + 2
 
-abbrev pub outcomeCount : ℕ
-outcomeCount = 1
+abbrev pub outcomeWords : ℕ
+outcomeWords = 1
 
-abbrev pub allocationCount : ℕ
-allocationCount = 1
+abbrev pub allocationWords : ℕ
+allocationWords = 1
 
 -- the calendar call's values: "its day, its month and whether it is peak"
-abbrev pub hourWords : OperatingHour → List ℕ
-hourWords hour = hour .day ∷ hour .month ∷ cond (hour .peak) 1 0 ∷ []
+abbrev pub hourReport : OperatingHour → List ℕ
+hourReport hour = hour .day ∷ hour .month ∷ cond (hour .peak) 1 0 ∷ []
 
 -- "the eight fields", in their order in the record
-abbrev pub rightWords : Right → List ℕ
-rightWords right =
+abbrev pub rightReport : Right → List ℕ
+rightReport right =
     right .owner
     ∷ right .source
     ∷ right .sink
@@ -66,9 +66,9 @@ rightWords right =
     ∷ []
 
 -- a reader's step: the fields that it gives, where it then stands, and whether it "says there is none"
-abbrev pub stepWords : List ℕ → ℕ → List ℕ
-stepWords file next =
-    rightWords (reading file next .right) ++ (nextAfter file next ∷ cond (isFinished file next) 1 0 ∷ [])
+abbrev pub stepReport : List ℕ → ℕ → List ℕ
+stepReport file next =
+    rightReport (reading file next .right) ++ (nextAfter file next ∷ cond (isFinished file next) 1 0 ∷ [])
 
 -- its number: none where it says that there is none, else the read's
 abbrev pub stepRefusal : List ℕ → ℕ → ℕ
@@ -81,11 +81,11 @@ unfoldable pub openRefusal : BookWords → ℕ
 openRefusal words = firstRefusal ((4 if isWrongCount words) ∷ [])
 
 -- an event's report: the record number, F and D
-abbrev pub settledWords : ℕ → ℕ → ℕ → List ℤ
-settledWords faulty fund demand = pos faulty ∷ pos fund ∷ pos demand ∷ []
+abbrev pub settledReport : ℕ → ℕ → ℕ → List ℤ
+settledReport faulty fund demand = pos faulty ∷ pos fund ∷ pos demand ∷ []
 
-abbrev pub settledCount : ℕ
-settledCount = 3
+abbrev pub settledWords : ℕ
+settledWords = 3
 
 -- what the words of an event call for before there is a book: 4 for their number; 1, spoiled book, for a mark that is neither 0 nor 1
 -- and for a negative surplus
@@ -93,7 +93,7 @@ unfoldable pub wordsRefusal : BookWords → ℕ → ℕ
 wordsRefusal words report =
     firstRefusal
     ((4 if isWrongCount words)
-    ∷ (4 if isWrongReport settledCount report)
+    ∷ (4 if isWrongReport settledWords report)
     ∷ (1 if isWrongMark words)
     ∷ (1 if isOverdrawn words)
     ∷ [])
@@ -111,9 +111,9 @@ recordIn report = positive (getD report 0 (pos 0))
 pub record Settles (call : Call) (words : BookWords) (report lent : List ℤ) (given : ℕ) (wordsAfter : BookWords) (reportAfter linesAfter : List ℤ)
     : Type 0 where
   pub number : given ≡ eventRefusal call words (length report) (length lent)
-  pub names : isWrongReport settledCount (length report) ≡ false → namesRecord call given (recordIn reportAfter) ≡ true
+  pub names : isWrongReport settledWords (length report) ≡ false → namesRecord call given (recordIn reportAfter) ≡ true
   pub reports : reportAfter
-      ≡ cond (isWrongReport settledCount (length report)) report
-      (settledWords (recordIn reportAfter) (answerBy given (fund call (bookFrom words)) 0) (answerBy given (demand call (bookFrom words)) 0))
+      ≡ cond (isWrongReport settledWords (length report)) report
+      (settledReport (recordIn reportAfter) (answerBy given (fund call (bookFrom words)) 0) (answerBy given (demand call (bookFrom words)) 0))
   pub givesBook : wordsAfter ≡ answerBy given (wordsOf (bookAfter call (bookFrom words))) words
   pub writesLines : linesAfter ≡ answerBy given (lines call (bookFrom words)) lent

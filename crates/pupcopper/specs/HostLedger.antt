@@ -10,7 +10,7 @@ use Rattle.settlement.specs.Book.{fresh}
 use Rattle.settlement.specs.Events.{Call}
 use Rattle.settlement.specs.Ledger.{Entry}
 use Rattle.pupcopper.specs.BookWords.{BookWords, wordsOf, bookFrom}
-use Rattle.pupcopper.specs.Calls.{isWrongReport, settledCount, recordIn, Settles}
+use Rattle.pupcopper.specs.Calls.{isWrongReport, settledWords, recordIn, Settles}
 
 -- a call of a host: the event, the report and the lines lent with it, its number, and the words, the report and the lines after it
 pub record HostEntry : Type 0 where
@@ -55,4 +55,4 @@ entryOf entry =
 unfoldable pub ledgerOf : List HostEntry → List Entry
 ledgerOf [] = []
 ledgerOf (entry ∷ past) =
-    cond (isWrongReport settledCount (length (entry .report))) (ledgerOf past) (entryOf entry ∷ ledgerOf past)
+    cond (isWrongReport settledWords (length (entry .report))) (ledgerOf past) (entryOf entry ∷ ledgerOf past)

@@ -14,7 +14,7 @@ use Rattle.settlement.specs.declared.Settled.{Settled}
 use Rattle.pupcopper.specs.declared.book_words.Taken.{Taken}
 use Rattle.pupcopper.specs.declared.reports.Told.{Told}
 use Rattle.pupcopper.specs.BookWords.{BookWords, bookFrom}
-use Rattle.pupcopper.specs.Calls.{isWrongReport, settledWords, settledCount, wordsRefusal}
+use Rattle.pupcopper.specs.Calls.{isWrongReport, settledReport, settledWords, wordsRefusal}
 
 -- a reader's answer
 abbrev pub toldOf : Given → Told
@@ -23,7 +23,7 @@ toldOf given = record { number = givenNumber given; none = cond (saysNone given)
 -- refused by its words: the report has zeros, if it has its places; else the book, and the report is as it was
 pub record Takes (words : BookWords) (report : List ℤ) (taken : Taken) (after : List ℤ) : Type 0 where
   pub number : taken .refusal ≡ wordsRefusal words (length report)
-  pub refused : (taken .refusal ≡ 0 → ⊥) → after ≡ cond (isWrongReport settledCount (length report)) report (settledWords 0 0 0)
+  pub refused : (taken .refusal ≡ 0 → ⊥) → after ≡ cond (isWrongReport settledWords (length report)) report (settledReport 0 0 0)
   pub given : taken .refusal ≡ 0 → taken .book ≡ bookFrom words
   pub kept : taken .refusal ≡ 0 → after ≡ report
 

@@ -5,7 +5,7 @@ ghost use mathlib.Core.Bool.{false};
 ghost use lib.ListN.{length};
 ghost use Rattle.numbers.specs.Refusals.{answerBy};
 ghost use Rattle.pupcopper.specs.BookWords.{wordsIn, countsOf, byOwner, surplusesOf, wordsOf, cellsFrom, bookFrom, shortfallWords, isNoBook, isWrongCount};
-ghost use Rattle.pupcopper.specs.Calls.{settledWords, settledCount, wordsRefusal};
+ghost use Rattle.pupcopper.specs.Calls.{settledReport, settledWords, wordsRefusal};
 ghost use Rattle.pupcopper.specs.InnerContracts.{Takes, SurplusesFit, ResultFits};
 use crate::reports;
 use numbers::OWNERS;
@@ -151,10 +151,10 @@ pub(crate) fn give_back(
     report: &mut [i64],
 ) -> u8
     requires { ⌜ isWrongCount (wordsIn (now counts) (now shortfalls) (now surpluses)) ≡ false ⌝ }
-    requires { ⌜ length (now report) ≡ settledCount ⌝ }
+    requires { ⌜ length (now report) ≡ settledWords ⌝ }
     requires { ⌜ ResultFits settled ⌝ }
     ensures { λ r. ⌜ r ≡ settled .refusal ⌝ }
-    ensures { λ _. ⌜ now (report .exit) ≡ settledWords (settled .faulty) (settled .fund) (settled .demand) ⌝ }
+    ensures { λ _. ⌜ now (report .exit) ≡ settledReport (settled .faulty) (settled .fund) (settled .demand) ⌝ }
     ensures { λ r. ⌜ wordsIn (now (counts .exit)) (now (shortfalls .exit)) (now (surpluses .exit)) ≡ answerBy r (wordsOf (settled .book)) (wordsIn (now (counts .entry)) (now (shortfalls .entry)) (now (surpluses .entry))) ⌝ }
 {
     reports::write_settled(settled.faulty, settled.fund, settled.demand, report);

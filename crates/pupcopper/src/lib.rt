@@ -14,7 +14,7 @@ ghost use Rattle.settlement.specs.Book.{fresh as freshBook};
 ghost use Rattle.settlement.specs.Events.{hourCall, monthEndCall, yearEndCall};
 ghost use Rattle.pupcopper.specs.Billing.{billingClass};
 ghost use Rattle.pupcopper.specs.BookWords.{wordsIn, wordsOf};
-ghost use Rattle.pupcopper.specs.Calls.{numberOf, reportRefusal, hourCount, hourWords, rightCount, rightWords, stepCount, stepWords, stepRefusal, outcomeCount, allocationCount, openRefusal, Settles};
+ghost use Rattle.pupcopper.specs.Calls.{numberOf, reportRefusal, hourWords, hourReport, rightWords, rightReport, stepWords, stepReport, stepRefusal, outcomeWords, allocationWords, openRefusal, Settles};
 use settlement::Book;
 
 mod book_words;
@@ -47,8 +47,8 @@ pub extern "C" fn pupcopper_cents(tenths: i64) -> i64
 // The calendar call. The report gets the day, the month, and 1 in a peak hour.
 #[no_mangle]
 pub extern "C" fn pupcopper_calendar(hour: u64, report: &mut [u64]) -> u8
-    ensures { λ r. ⌜ r ≡ numberOf (reportRefusal hourCount (length (now (report .entry)))) (operatingHour hour .refusal) ⌝ }
-    ensures { λ _. ⌜ now (report .exit) ≡ answerBy (reportRefusal hourCount (length (now (report .entry)))) (hourWords (operatingHour hour)) (now (report .entry)) ⌝ }
+    ensures { λ r. ⌜ r ≡ numberOf (reportRefusal hourWords (length (now (report .entry)))) (operatingHour hour .refusal) ⌝ }
+    ensures { λ _. ⌜ now (report .exit) ≡ answerBy (reportRefusal hourWords (length (now (report .entry)))) (hourReport (operatingHour hour)) (now (report .entry)) ⌝ }
 {
     if report.len() != reports::HOUR_WORDS {
         return 4;
@@ -63,8 +63,8 @@ pub extern "C" fn pupcopper_calendar(hour: u64, report: &mut [u64]) -> u8
 // The read by record number. The report gets the eight fields.
 #[no_mangle]
 pub extern "C" fn pupcopper_read(rights: &[u8], number: u64, report: &mut [u64]) -> u8
-    ensures { λ r. ⌜ r ≡ numberOf (reportRefusal rightCount (length (now (report .entry)))) (reading (now (rights .entry)) number .refusal) ⌝ }
-    ensures { λ _. ⌜ now (report .exit) ≡ answerBy (reportRefusal rightCount (length (now (report .entry)))) (rightWords (reading (now (rights .entry)) number .right)) (now (report .entry)) ⌝ }
+    ensures { λ r. ⌜ r ≡ numberOf (reportRefusal rightWords (length (now (report .entry)))) (reading (now (rights .entry)) number .refusal) ⌝ }
+    ensures { λ _. ⌜ now (report .exit) ≡ answerBy (reportRefusal rightWords (length (now (report .entry)))) (rightReport (reading (now (rights .entry)) number .right)) (now (report .entry)) ⌝ }
 {
     if report.len() != reports::RIGHT_WORDS {
         return 4;
@@ -78,8 +78,8 @@ pub extern "C" fn pupcopper_read(rights: &[u8], number: u64, report: &mut [u64])
 // A reader's step from a record number. The report gets the eight fields, the number to go on with, and 1 if no record is left.
 #[no_mangle]
 pub extern "C" fn pupcopper_next(rights: &[u8], next: u64, report: &mut [u64]) -> u8
-    ensures { λ r. ⌜ r ≡ numberOf (reportRefusal stepCount (length (now (report .entry)))) (stepRefusal (now (rights .entry)) next) ⌝ }
-    ensures { λ _. ⌜ now (report .exit) ≡ answerBy (reportRefusal stepCount (length (now (report .entry)))) (stepWords (now (rights .entry)) next) (now (report .entry)) ⌝ }
+    ensures { λ r. ⌜ r ≡ numberOf (reportRefusal stepWords (length (now (report .entry)))) (stepRefusal (now (rights .entry)) next) ⌝ }
+    ensures { λ _. ⌜ now (report .exit) ≡ answerBy (reportRefusal stepWords (length (now (report .entry)))) (stepReport (now (rights .entry)) next) (now (report .entry)) ⌝ }
 {
     if report.len() != reports::STEP_WORDS {
         return 4;
@@ -103,10 +103,10 @@ pub extern "C" fn pupcopper_targets(
     lines: &mut [i64],
     report: &mut [u64],
 ) -> u8
-    ensures { λ r. ⌜ r ≡ numberOf (reportRefusal outcomeCount (length (now (report .entry)))) (targetRefusal (now (rights .entry)) (now (prices .entry)) hour (length (now (lines .entry)))) ⌝ }
-    ensures { λ _. ⌜ now (lines .exit) ≡ answerBy (reportRefusal outcomeCount (length (now (report .entry)))) (targetLines (now (rights .entry)) (now (prices .entry)) hour (now (lines .entry))) (now (lines .entry)) ⌝ }
-    ensures { λ _. ⌜ now (report .exit) ≡ answerBy (reportRefusal outcomeCount (length (now (report .entry)))) (getD (now (report .exit)) 0 0 ∷ []) (now (report .entry)) ⌝ }
-    ensures { λ r. ⌜ (reportRefusal outcomeCount (length (now (report .entry))) ≡ 0 → namesFault (length (now (prices .entry))) (now (rights .entry)) r (getD (now (report .exit)) 0 0) ≡ true) ⌝ }
+    ensures { λ r. ⌜ r ≡ numberOf (reportRefusal outcomeWords (length (now (report .entry)))) (targetRefusal (now (rights .entry)) (now (prices .entry)) hour (length (now (lines .entry)))) ⌝ }
+    ensures { λ _. ⌜ now (lines .exit) ≡ answerBy (reportRefusal outcomeWords (length (now (report .entry)))) (targetLines (now (rights .entry)) (now (prices .entry)) hour (now (lines .entry))) (now (lines .entry)) ⌝ }
+    ensures { λ _. ⌜ now (report .exit) ≡ answerBy (reportRefusal outcomeWords (length (now (report .entry)))) (getD (now (report .exit)) 0 0 ∷ []) (now (report .entry)) ⌝ }
+    ensures { λ r. ⌜ (reportRefusal outcomeWords (length (now (report .entry))) ≡ 0 → namesFault (length (now (prices .entry))) (now (rights .entry)) r (getD (now (report .exit)) 0 0) ≡ true) ⌝ }
 {
     if report.len() != reports::OUTCOME_WORDS {
         return 4;
@@ -124,9 +124,9 @@ pub extern "C" fn pupcopper_split(
     payments: &mut [u64],
     report: &mut [u64],
 ) -> u8
-    ensures { λ r. ⌜ r ≡ numberOf (reportRefusal allocationCount (length (now (report .entry)))) (allocation fund (now (wants .entry)) (length (now (payments .entry))) .refusal) ⌝ }
-    ensures { λ _. ⌜ now (payments .exit) ≡ answerBy (reportRefusal allocationCount (length (now (report .entry)))) (paymentsAfter fund (now (wants .entry)) (now (payments .entry))) (now (payments .entry)) ⌝ }
-    ensures { λ _. ⌜ now (report .exit) ≡ answerBy (reportRefusal allocationCount (length (now (report .entry)))) (allocation fund (now (wants .entry)) (length (now (payments .entry))) .left ∷ []) (now (report .entry)) ⌝ }
+    ensures { λ r. ⌜ r ≡ numberOf (reportRefusal allocationWords (length (now (report .entry)))) (allocation fund (now (wants .entry)) (length (now (payments .entry))) .refusal) ⌝ }
+    ensures { λ _. ⌜ now (payments .exit) ≡ answerBy (reportRefusal allocationWords (length (now (report .entry)))) (paymentsAfter fund (now (wants .entry)) (now (payments .entry))) (now (payments .entry)) ⌝ }
+    ensures { λ _. ⌜ now (report .exit) ≡ answerBy (reportRefusal allocationWords (length (now (report .entry)))) (allocation fund (now (wants .entry)) (length (now (payments .entry))) .left ∷ []) (now (report .entry)) ⌝ }
 {
     if report.len() != reports::ALLOCATION_WORDS {
         return 4;

@@ -6,7 +6,7 @@ ghost use mathlib.Core.List.{_++_};
 ghost use lib.ListN.{length, drop};
 ghost use Rattle.rights.specs.Layout.{refusedReading};
 ghost use Rattle.pupcopper.specs.InnerContracts.{toldOf};
-ghost use Rattle.pupcopper.specs.Calls.{rightCount, rightWords, settledWords, settledCount, isWrongReport};
+ghost use Rattle.pupcopper.specs.Calls.{rightWords, rightReport, settledReport, settledWords, isWrongReport};
 use rights::Given;
 use rights::Right;
 
@@ -26,8 +26,8 @@ pub(crate) const SETTLED_WORDS: usize = 3;
 
 // Writes the eight fields from the report's start.
 pub(crate) fn write_right(right: Right, report: &mut [u64])
-    requires { ⌜ rightCount ≤ length (now report) ⌝ }
-    ensures { λ _. ⌜ now (report .exit) ≡ rightWords right ++ drop rightCount (now (report .entry)) ⌝ }
+    requires { ⌜ rightWords ≤ length (now report) ⌝ }
+    ensures { λ _. ⌜ now (report .exit) ≡ rightReport right ++ drop rightWords (now (report .entry)) ⌝ }
 {
     report[0] = right.owner as u64;
     report[1] = right.source as u64;
@@ -84,7 +84,7 @@ fn no_record(number: u8, none: u64) -> Told
 
 // Zeros for an event that is refused by its words, if the report has its places.
 pub(crate) fn write_refused(report: &mut [i64])
-    ensures { λ _. ⌜ now (report .exit) ≡ cond (isWrongReport settledCount (length (now (report .entry)))) (now (report .entry)) (settledWords 0 0 0) ⌝ }
+    ensures { λ _. ⌜ now (report .exit) ≡ cond (isWrongReport settledWords (length (now (report .entry)))) (now (report .entry)) (settledReport 0 0 0) ⌝ }
 {
     if report.len() == SETTLED_WORDS {
         write_settled(0, 0, 0, report);
@@ -93,9 +93,9 @@ pub(crate) fn write_refused(report: &mut [i64])
 
 // Writes an event's report: the record number, F and D.
 pub(crate) fn write_settled(faulty: u64, fund: u64, demand: u64, report: &mut [i64])
-    requires { ⌜ length (now report) ≡ settledCount ⌝ }
+    requires { ⌜ length (now report) ≡ settledWords ⌝ }
     requires { ⌜ (faulty < 2 ^ 63) × (fund < 2 ^ 63) × (demand < 2 ^ 63) ⌝ }
-    ensures { λ _. ⌜ now (report .exit) ≡ settledWords faulty fund demand ⌝ }
+    ensures { λ _. ⌜ now (report .exit) ≡ settledReport faulty fund demand ⌝ }
 {
     report[0] = faulty as i64;
     report[1] = fund as i64;

@@ -6,7 +6,7 @@ use mathlib.Core.List.{List, [], _∷_}
 use mir.Val.{boolByte}
 use borrow.Author.Needs.{needs}
 use Rattle.calendar.specs.declared.OperatingHour.{OperatingHour}
-use Rattle.pupcopper.specs.Calls.{hourWords}
+use Rattle.pupcopper.specs.Calls.{hourReport}
 use Rattle.pupcopper.proofs.ReportWords.{flag-byte, wrong-number, right-number, wrong-kept, right-given, written-all}
 use Rattle.pupcopper.proofs.pupcopper_calendar.Statement.{statement}
 use Rattle.pupcopper.proofs.pupcopper_calendar.Tie as tie
@@ -15,7 +15,7 @@ use Rattle.pupcopper.proofs.pupcopper_calendar.Tie as tie
 abbrev hourBytes : OperatingHour → List ℕ
 hourBytes hour = hour .day ∷ hour .month ∷ boolByte (hour .peak) ∷ []
 
-hour-bytes : (hour : OperatingHour) → hourBytes hour ≡ hourWords hour
+hour-bytes : (hour : OperatingHour) → hourBytes hour ≡ hourReport hour
 hour-bytes hour = ap (λ (peak : ℕ). hour .day ∷ hour .month ∷ peak ∷ []) (flag-byte (hour .peak))
 
 returns : tie.Need-returns
@@ -52,7 +52,7 @@ returns-2 c =
       ap (λ (h : OperatingHour). h .refusal) found ∙ right-number 3 _ _ fits,
       written-all (hourBytes (c .before .before .before .operating-hour .result)) (c .before .before .before .before .before .before .args .report .now) fits
           ∙ hour-bytes (c .before .before .before .operating-hour .result)
-          ∙ ap hourWords found ∙ right-given 3 _ _ _ fits,
+          ∙ ap hourReport found ∙ right-given 3 _ _ _ fits,
     )
 
 pub pupcopper-calendar-spec : {M : Type 1} → statement M

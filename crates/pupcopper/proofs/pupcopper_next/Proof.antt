@@ -7,7 +7,7 @@ use mathlib.Core.Bool.{Bool, cond}
 use mathlib.Core.List.{List, [], _∷_, _++_}
 use lib.ListN.{set, length-set}
 use Rattle.pupcopper.specs.declared.reports.Told.{Told}
-use Rattle.pupcopper.specs.Calls.{rightWords}
+use Rattle.pupcopper.specs.Calls.{rightReport}
 use Rattle.pupcopper.proofs.ReportWords.{wrong-number, right-number, wrong-kept, right-given, written-behind}
 use borrow.Author.Needs.{needs}
 use Rattle.pupcopper.proofs.pupcopper_next.Statement.{statement}
@@ -49,8 +49,8 @@ returns-2 c =
     let is = told .tell .ensures in (
       ap (λ (t : Told). t .number) is ∙ step .number ∙ right-number 10 _ _ fits,
       ap (λ (words : List ℕ). set (set words 8 next) 9 none) (wrote .write-right .ensures)
-          ∙ written-behind (rightWords (told .tell .result .right)) (next ∷ none ∷ []) before fits
-          ∙ (λ i. rightWords ((ap (λ (t : Told). t .right) is ∙ step .right) i) ++ (step .moves i ∷ (ap (λ (t : Told). t .none) is ∙ ap (λ (b : Bool). cond b 1 0) (step .none)) i ∷ []))
+          ∙ written-behind (rightReport (told .tell .result .right)) (next ∷ none ∷ []) before fits
+          ∙ (λ i. rightReport ((ap (λ (t : Told). t .right) is ∙ step .right) i) ++ (step .moves i ∷ (ap (λ (t : Told). t .none) is ∙ ap (λ (b : Bool). cond b 1 0) (step .none)) i ∷ []))
           ∙ right-given 10 _ _ _ fits,
     )
 

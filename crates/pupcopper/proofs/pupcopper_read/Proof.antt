@@ -3,7 +3,7 @@
 use mathlib.Core.Path.{ap, _∙_}
 use borrow.Author.Needs.{needs}
 use Rattle.rights.specs.declared.Reading.{Reading}
-use Rattle.pupcopper.specs.Calls.{rightWords}
+use Rattle.pupcopper.specs.Calls.{rightReport}
 use Rattle.pupcopper.proofs.ReportWords.{wrong-number, right-number, wrong-kept, right-given, nothing-behind}
 use Rattle.pupcopper.proofs.pupcopper_read.Statement.{statement}
 use Rattle.pupcopper.proofs.pupcopper_read.Tie as tie
@@ -28,8 +28,8 @@ returns-2 c =
     let before = found .before .before .before .before .args .report .now in (
       ap (λ (r : Reading). r .refusal) (found .read .ensures) ∙ right-number 8 _ _ fits,
       wrote .write-right .ensures
-          ∙ nothing-behind (rightWords (found .read .result .right)) before fits
-          ∙ ap (λ (r : Reading). rightWords (r .right)) (found .read .ensures)
+          ∙ nothing-behind (rightReport (found .read .result .right)) before fits
+          ∙ ap (λ (r : Reading). rightReport (r .right)) (found .read .ensures)
           ∙ right-given 8 _ _ _ fits,
     )
 

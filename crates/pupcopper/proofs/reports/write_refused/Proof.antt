@@ -5,13 +5,13 @@ use mathlib.Core.Bool.{Bool, cond}
 use mathlib.Core.List.{List}
 use lib.IntN.{ℤ}
 use borrow.Author.Needs.{needs}
-use Rattle.pupcopper.specs.Calls.{settledWords}
+use Rattle.pupcopper.specs.Calls.{settledReport}
 use Rattle.pupcopper.proofs.ReportWords.{report-fits, report-wrong}
 use Rattle.pupcopper.proofs.reports.write_refused.Statement.{statement}
 use Rattle.pupcopper.proofs.reports.write_refused.Tie as tie
 
-by-fit : (given : List ℤ) {wrong fact : Bool} → wrong ≡ fact → cond fact given (settledWords 0 0 0) ≡ cond wrong given (settledWords 0 0 0)
-by-fit given is = sym (ap (λ (fits : Bool). cond fits given (settledWords 0 0 0)) is)
+by-fit : (given : List ℤ) {wrong fact : Bool} → wrong ≡ fact → cond fact given (settledReport 0 0 0) ≡ cond wrong given (settledReport 0 0 0)
+by-fit given is = sym (ap (λ (fits : Bool). cond fits given (settledReport 0 0 0)) is)
 
 write-settled-requires : tie.Need-write-settled-requires
 write-settled-requires c κs = search needs

@@ -2,7 +2,7 @@
 -- Assumes nothing.
 use native.Mathlib.Omega.{arith}
 use lib.ListN.{length-set}
-use Rattle.pupcopper.specs.Calls.{rightWords}
+use Rattle.pupcopper.specs.Calls.{rightReport}
 use Rattle.pupcopper.proofs.ReportWords.{written}
 use borrow.Author.Needs.{needs}
 use Rattle.pupcopper.proofs.reports.write_right.Statement.{statement}
@@ -63,7 +63,7 @@ same-length c = search needs
 
 returns : tie.Need-returns
 returns c =
-    written (rightWords (c .before .before .before .before .before .before .before .before .args .right)) (c .before .before .before .before .before .before .before .before .args .report .now) (c .before .before .before .before .before .before .before .before .pre)
+    written (rightReport (c .before .before .before .before .before .before .before .before .args .right)) (c .before .before .before .before .before .before .before .before .args .report .now) (c .before .before .before .before .before .before .before .before .pre)
 
 pub write-right-spec : {M : Type 1} → statement M
 write-right-spec =
