@@ -141,14 +141,15 @@ impl Book {
             || self.surpluses() > u128::from(self.hours) * TOP_SURPLUS_PER_HOUR
     }
 
-    /// The hours stand at the end of the next month to close.
+    /// The hours stand at the end of the next month to close, on a book that is
+    /// not ended.
     pub fn month_end_due(&self) -> bool {
-        next_month_end(self.months) == Some(self.hours)
+        next_month_end(self.months) == Some(self.hours) && !self.ended
     }
 
     /// All months are closed and the year is not.
     pub fn year_end_due(&self) -> bool {
-        self.months == 12 && !self.ended
+        self.months >= 12 && !self.ended
     }
 
     /// "when refused, the book is the one given, F and D are 0, and the record

@@ -10,7 +10,9 @@ pub mod calendar;
 pub mod program;
 pub mod refusal;
 pub mod rights;
+pub mod sentence;
 pub mod split;
+pub mod step;
 pub mod target;
 
 // What a host lends and gets, in words, from `host/pupcopper.h`.

@@ -13,7 +13,9 @@ const USAGE: &str = "usage: reference COMMAND
 
 fn run_program(output: &mut dyn Write) -> io::Result<bool> {
     let rights = program::read_rights(Path::new("ftr.bin"));
-    program::run(rights.as_deref(), &mut io::stdin().lock(), output)?;
+    let stopped = program::run(rights.as_deref(), &mut io::stdin().lock(), output)?;
+    output.flush()?;
+    eprint!("{}", stopped.sentence());
     Ok(true)
 }
 

@@ -100,7 +100,7 @@ pub fn write_files(year: &Year, folder: &Path) -> io::Result<()> {
 #[cfg(test)]
 mod tests {
     use super::*;
-    use crate::program::HOUR_BYTES;
+    use crate::step::HOUR_BYTES;
 
     /// How often the prices differ from those of the hour before.
     fn price_changes(daily: bool) -> usize {

@@ -3,14 +3,11 @@
 use std::io::{self, Read, Write};
 use std::path::Path;
 
-use crate::book::{Book, EventResult, HourInput};
+use crate::book::Book;
 use crate::refusal::{ACCEPTED, WRONG_LENGTH};
 use crate::rights::LONGEST;
-use crate::target::{MOST_PRICES, OWNERS};
-
-/// "4,104 bytes each, collected (64 bits signed), then 1,024 prices (32 bits
-/// signed), low byte first".
-pub const HOUR_BYTES: usize = 8 + 4 * MOST_PRICES;
+use crate::sentence::Stopped;
+use crate::step::{last_line, step, HOUR_BYTES};
 
 /// The rights, or nothing "if it can't be opened or is too long".
 pub fn read_rights(path: &Path) -> Option<Vec<u8>> {
@@ -35,114 +32,39 @@ fn read_full(input: &mut dyn Read, buffer: &mut [u8]) -> io::Result<usize> {
     Ok(read)
 }
 
-/// The amount collected and the prices of an hour.
-fn decode_hour(bytes: &[u8]) -> (i64, Vec<i32>) {
-    let (collected, prices) = bytes.split_at(bytes.len().min(8));
-    let mut low = [0; 8];
-    low.iter_mut().zip(collected).for_each(|(to, b)| *to = *b);
-    let price = |four: &[u8]| {
-        let mut low = [0; 4];
-        low.iter_mut().zip(four).for_each(|(to, b)| *to = *b);
-        i32::from_le_bytes(low)
+/// Before the first hour: "number 4 if it can't be opened or is too long".
+fn opening(rights: Option<&[u8]>) -> Stopped {
+    let refusal = match rights {
+        Some(_) => ACCEPTED,
+        None => WRONG_LENGTH,
     };
-    let prices = prices.chunks_exact(4).map(price).collect();
-    (i64::from_le_bytes(low), prices)
-}
-
-/// "for each non-zero line, an H, M or Y, the hour or month number (0 for the
-/// year), owner, cents".
-fn print_lines(output: &mut dyn Write, letter: &str, number: u64, lines: &[i64]) -> io::Result<()> {
-    for (owner, line) in lines.iter().enumerate() {
-        if *line != 0 {
-            writeln!(output, "{letter} {number} {owner} {line}")?;
-        }
+    Stopped {
+        refusal,
+        ..Stopped::default()
     }
-    Ok(())
 }
 
-/// Prints the lines of an accepted event and gives the book after it, or
-/// prints `R` and the number.
-fn report(
+/// The whole program over the rights read, if they could be. Gives what stopped
+/// it, whose sentence goes to standard error.
+pub fn run(
+    rights: Option<&[u8]>,
+    input: &mut dyn Read,
     output: &mut dyn Write,
-    letter: &str,
-    number: u64,
-    result: &EventResult,
-    lines: &[i64],
-) -> io::Result<Option<Book>> {
-    if result.refusal != ACCEPTED {
-        print_refusal(output, result.refusal)?;
-        return Ok(None);
-    }
-    print_lines(output, letter, number, lines)?;
-    Ok(Some(result.book))
-}
-
-/// "A refusal prints R and its number, no F, and stops".
-fn print_refusal(output: &mut dyn Write, refusal: u64) -> io::Result<()> {
-    writeln!(output, "R {refusal}")
-}
-
-/// "It closes months and the year when due."
-fn close_when_due(output: &mut dyn Write, book: Book) -> io::Result<Option<Book>> {
-    let mut lines = [0; OWNERS];
-    let mut after = book;
-    if after.month_end_due() {
-        let result = after.month_end(&mut lines);
-        match report(output, "M", book.months, &result, &lines)? {
-            Some(next) => after = next,
-            None => return Ok(None),
-        }
-    }
-    if after.year_end_due() {
-        let result = after.year_end(&mut lines);
-        return report(output, "Y", 0, &result, &lines);
-    }
-    Ok(Some(after))
-}
-
-/// One hour of the input and the ends that are due after it.
-fn settle_hour(
-    output: &mut dyn Write,
-    rights: &[u8],
-    bytes: &[u8],
-    book: Book,
-) -> io::Result<Option<Book>> {
-    let (collected, prices) = decode_hour(bytes);
-    let input = HourInput {
-        rights,
-        prices: &prices,
-        collected,
-    };
-    let mut lines = [0; OWNERS];
-    let result = book.hour(input, &mut lines);
-    match report(output, "H", book.hours, &result, &lines)? {
-        Some(after) => close_when_due(output, after),
-        None => Ok(None),
-    }
-}
-
-/// The whole program over the rights read, if they could be.
-pub fn run(rights: Option<&[u8]>, input: &mut dyn Read, output: &mut dyn Write) -> io::Result<()> {
-    let Some(rights) = rights else {
-        return print_refusal(output, WRONG_LENGTH);
-    };
+) -> io::Result<Stopped> {
+    let mut stopped = opening(rights);
     let mut book = Book::fresh();
-    let mut bytes = [0; HOUR_BYTES];
-    loop {
-        let read = read_full(input, &mut bytes)?;
+    let mut block = [0; HOUR_BYTES];
+    while stopped.goes_on() {
+        let read = read_full(input, &mut block)?;
         if read == 0 {
-            // "last an F, month surplus, year surplus"
-            return writeln!(output, "F {} {}", book.month_surplus, book.year_surplus);
+            break;
         }
-        if read < HOUR_BYTES {
-            // "so does a broken last hour, with number 4"
-            return print_refusal(output, WRONG_LENGTH);
-        }
-        match settle_hour(output, rights, &bytes, book)? {
-            Some(after) => book = after,
-            None => return Ok(()),
-        }
+        let step = step(book, rights.unwrap_or_default(), &block[..read]);
+        output.write_all(step.text.as_bytes())?;
+        (book, stopped) = (step.book, step.stopped);
     }
+    output.write_all(last_line(stopped.refusal, &book).as_bytes())?;
+    Ok(stopped)
 }
 
 #[cfg(test)]
@@ -168,6 +90,11 @@ mod tests {
         String::from_utf8_lossy(&output).into_owned()
     }
 
+    fn sentence(rights: Option<&[u8]>, input: &[u8]) -> String {
+        let stopped = run(rights, &mut &input[..], &mut Vec::new());
+        stopped.map_or(String::new(), |stopped| stopped.sentence())
+    }
+
     #[test]
     fn printed_case() {
         let mut input = hour(6_000);
@@ -187,6 +114,19 @@ mod tests {
         input.extend([1]);
         let expected = "H 0 0 8500\nH 0 1 -2500\nR 4\n";
         assert_eq!(printed(Some(&RIGHTS), &input), expected);
+    }
+
+    #[test]
+    fn refusals_are_named() {
+        let file = sentence(None, &hour(0));
+        assert_eq!(file, "Rights file is refused: 4, wrong length.\n");
+        let amount = sentence(Some(&RIGHTS), &[hour(0), hour(-1)].concat());
+        assert_eq!(amount, "Hour 1 is refused: 6, wild amount.\n");
+        let broken = sentence(Some(&RIGHTS), &hour(0).repeat(3)[..3 * HOUR_BYTES - 1]);
+        assert_eq!(broken, "Hour 2 is refused: 4, wrong length.\n");
+        let bad = sentence(Some(&[RIGHTS, [0; 32]].concat()), &hour(0));
+        assert_eq!(bad, "Hour 0 is refused: 7, bad right, record 2.\n");
+        assert_eq!(sentence(Some(&RIGHTS), &hour(0)), "");
     }
 
     #[test]

@@ -22,3 +22,21 @@ pub fn lowest(cases: &[(u64, bool)]) -> u64 {
         .min()
         .unwrap_or(ACCEPTED)
 }
+
+/// The word of the table.
+pub fn word(refusal: u64) -> &'static str {
+    match refusal {
+        SPOILED_BOOK => "spoiled book",
+        YEAR_OVER => "year over",
+        OUT_OF_TURN => "out of turn",
+        WRONG_LENGTH => "wrong length",
+        WILD_PRICE => "wild price",
+        WILD_AMOUNT => "wild amount",
+        BAD_RIGHT => "bad right",
+        UNPRICED_NODE => "unpriced node",
+        HOUR_TOO_LARGE => "hour too large",
+        CARRY_FULL => "carry full",
+        WANT_TOO_LARGE => "want too large",
+        _ => "not in the table",
+    }
+}

@@ -5,7 +5,9 @@ use crate::book::{Book, EventResult, HourInput};
 use crate::calendar::place;
 use crate::refusal::{ACCEPTED, SPOILED_BOOK, WRONG_LENGTH};
 use crate::rights::{self, Given, Reader, Right};
+use crate::sentence::Stopped;
 use crate::split;
+use crate::step::{last_line, step};
 use crate::target;
 
 /// "words of a book: hours settled, months closed, 1 if it is ended and else 0".
@@ -29,12 +31,45 @@ pub const RIGHT: usize = 8;
 /// "those of a read's, the next record number, 1 if there was no record left to
 /// give and else 0".
 pub const STEP: usize = 10;
+/// "words of a step's report: 1 if the text had too little room and else 0, the
+/// end of the text, the letter and the number of the refused event (0 for none),
+/// the record number of 7 and 8".
+pub const STEPPED: usize = 5;
+/// "words of a closing's report: 1 if the text had too little room and else 0,
+/// the end of the text".
+pub const CLOSED: usize = 2;
+/// "bytes behind the end of the text that a step asks for".
+pub const STEP_ROOM: usize = 12_480;
+/// "bytes behind the end of the text that a closing asks for".
+pub const CLOSING_ROOM: usize = 65;
+/// "bytes behind a place of the text that a sentence asks for".
+pub const SENTENCE_ROOM: usize = 112;
 
 /// "A book crosses as three slices, which the host keeps from call to call."
 pub struct BookWords<'a> {
     pub counts: &'a mut [u64],
     pub shortfalls: &'a mut [u64],
     pub surpluses: &'a mut [i64],
+}
+
+/// "A text is lent bytes and their end, any number".
+pub struct LentText<'a> {
+    pub bytes: &'a mut [u8],
+    pub end: u64,
+}
+
+impl LentText<'_> {
+    /// There are fewer than so many bytes behind the end.
+    fn lacks(&self, room: usize) -> bool {
+        (self.bytes.len() as u128) < u128::from(self.end) + room as u128
+    }
+
+    /// Writes behind the end, where there is room; gives the end after it.
+    fn append(&mut self, text: &str) -> u64 {
+        let at = usize::try_from(self.end).unwrap_or(usize::MAX);
+        self.bytes[at..at + text.len()].copy_from_slice(text.as_bytes());
+        self.end + text.len() as u64
+    }
 }
 
 /// One of the three events, with what is lent to it besides the lines.
@@ -126,6 +161,72 @@ impl BookWords<'_> {
         }
         result.refusal
     }
+
+    /// A step: "Settles the next hour, and after it the month end and the year
+    /// end that are due". A refusal's report "has the end that was given and else
+    /// zeros".
+    pub fn step(
+        &mut self,
+        rights: &[u8],
+        block: &[u8],
+        mut text: LentText,
+        report: &mut [u64],
+    ) -> u64 {
+        let unmoved = [0, text.end, 0, 0, 0];
+        if report.len() == STEPPED {
+            report.copy_from_slice(&unmoved);
+        }
+        if self.wrong_number() || report.len() != STEPPED {
+            return WRONG_LENGTH;
+        }
+        if self.spoiled() {
+            return SPOILED_BOOK;
+        }
+        if text.lacks(STEP_ROOM) {
+            report[0] = 1;
+            return ACCEPTED;
+        }
+        let step = step(self.book(), rights, block);
+        self.write(&step.book);
+        let Stopped {
+            letter,
+            number,
+            refusal,
+            record,
+        } = step.stopped;
+        let end = text.append(&step.text);
+        report.copy_from_slice(&[0, end, u64::from(letter), number, record]);
+        refusal
+    }
+
+    /// A closing: "The last line of a statement .. The book is only read."
+    pub fn closing(&self, refusal: u8, mut text: LentText, report: &mut [u64]) -> u64 {
+        let unmoved = [0, text.end];
+        if report.len() == CLOSED {
+            report.copy_from_slice(&unmoved);
+        }
+        if self.wrong_number() || report.len() != CLOSED {
+            return WRONG_LENGTH;
+        }
+        if self.spoiled() {
+            return SPOILED_BOOK;
+        }
+        if text.lacks(CLOSING_ROOM) {
+            report[0] = 1;
+            return ACCEPTED;
+        }
+        report[1] = text.append(&last_line(u64::from(refusal), &self.book()));
+        ACCEPTED
+    }
+}
+
+/// The sentence on a refusal. "Gives the place behind it; without the room it
+/// gives `at` and writes nothing."
+pub fn sentence(stopped: &Stopped, mut text: LentText) -> u64 {
+    if text.lacks(SENTENCE_ROOM) {
+        return text.end;
+    }
+    text.append(&stopped.sentence())
 }
 
 /// The event of the paper.
@@ -267,6 +368,67 @@ mod tests {
             surpluses[0] = -1;
         });
         assert_eq!(both, (4, [0; 3]));
+    }
+
+    /// A step over these words, with so many bytes of text and such an end: the
+    /// refusal and the report.
+    fn stepped(mark: u64, bytes: usize, end: u64) -> (u64, [u64; STEPPED]) {
+        let mut words = BookWords {
+            counts: &mut [9, 0, mark],
+            shortfalls: &mut [0; SHORTFALLS],
+            surpluses: &mut [5, 0],
+        };
+        let bytes = &mut vec![7; bytes];
+        let mut report = [9; STEPPED];
+        let text = LentText { bytes, end };
+        let refusal = words.step(&[0; 16], &[0; 4_104], text, &mut report);
+        assert!(bytes.iter().all(|byte| *byte == 7));
+        (refusal, report)
+    }
+
+    #[test]
+    fn the_room_is_looked_at_before_the_hour() {
+        assert_eq!(stepped(0, 12_483, 3), (7, [0, 3, 72, 9, 0]));
+        assert_eq!(stepped(0, 12_482, 3), (0, [1, 3, 0, 0, 0]));
+        assert_eq!(stepped(2, 12_482, 3), (1, [0, 3, 0, 0, 0]));
+        // A mark of a book that is not at its end, which the hour finds spoiled.
+        assert_eq!(stepped(1, 12_483, 3), (1, [0, 3, 72, 9, 0]));
+        let most = u64::MAX;
+        assert_eq!(stepped(0, 20_000, most), (0, [1, most, 0, 0, 0]));
+    }
+
+    fn behind_two(bytes: &mut [u8]) -> LentText<'_> {
+        LentText { bytes, end: 2 }
+    }
+
+    #[test]
+    fn a_closing_with_just_enough_room() {
+        let words = BookWords {
+            counts: &mut [9, 0, 0],
+            shortfalls: &mut [0; SHORTFALLS],
+            surpluses: &mut [5, 0],
+        };
+        let mut bytes = [b'-'; CLOSING_ROOM + 2];
+        let mut report = [9; CLOSED];
+        let short = behind_two(&mut bytes[..CLOSING_ROOM + 1]);
+        assert_eq!(words.closing(0, short, &mut report), 0);
+        assert_eq!((report, bytes[2]), ([1, 2], b'-'));
+        assert_eq!(words.closing(0, behind_two(&mut bytes), &mut report), 0);
+        assert_eq!((report, &bytes[..9]), ([0, 8], &b"--F 5 0\n-"[..]));
+    }
+
+    #[test]
+    fn a_sentence_with_just_enough_room() {
+        let stopped = Stopped {
+            refusal: WRONG_LENGTH,
+            ..Stopped::default()
+        };
+        let mut bytes = [b'-'; SENTENCE_ROOM + 2];
+        let short = behind_two(&mut bytes[..SENTENCE_ROOM + 1]);
+        assert_eq!((sentence(&stopped, short), bytes[2]), (2, b'-'));
+        assert_eq!(sentence(&stopped, behind_two(&mut bytes)), 43);
+        let expected = b"Rights file is refused: 4, wrong length.\n-";
+        assert_eq!(bytes[2..44], *expected);
     }
 
     #[test]

@@ -1,35 +1,38 @@
-// Settles an operating year: rights from ftr.bin, hours from standard input, the statement to standard output.
+// Settles an operating year: rights from ftr.bin, hours from standard input, the statement to standard output, and one sentence on a
+// refusal to standard error. Here is the opening, reading and writing alone; settlement_run decides what is printed.
+ghost use Prim.Native.Nat.{_≤_};
+ghost use mathlib.Core.Path.{_≡_};
+ghost use mathlib.Core.Bool.{false};
+ghost use lib.ListN.{length};
+ghost use Rattle.settlement_run.specs.Calls.{stepRoom};
+use libc::STDERR_FILENO;
 use libc::STDIN_FILENO;
 use libc::STDOUT_FILENO;
-use settlement::Book;
-use settlement::Event;
-use settlement::Settled;
+use settlement_run::Run;
 
-// Where the settlement stands: whether it goes on, the refusal that stopped it or 0, the book, and the end of the text that is not
-// written out yet.
+// One byte more than the longest rights file, so that a longer one shows.
+const RIGHTS_ROOM: usize = rights::FILE_BYTES + 1;
+
+// The text that is gathered before it is written out.
+const TEXT_ROOM: usize = 65536;
+
+// Where the program stands: the run, whether there may be more to read, and whether all text could be written so far.
 struct Standing {
     going: bool,
-    refusal: u8,
-    end: usize,
-    book: Book,
+    whole: bool,
+    run: Run,
 }
 
 fn main() {
-    let mut text = io::large_buffer();
-    let mut rights = io::large_buffer();
+    let mut rights = [0u8; RIGHTS_ROOM];
     let fd = os::open_read(b"ftr.bin");
-    if fd < 0 {
-        print_refusal(4, &mut text, 0);
-        return;
-    }
     let bytes = io::read_full(fd, &mut rights);
-    let whole = is_at_end(fd);
+    let readable = is_at_end(fd);
     libc::close(fd);
-    if !whole {
-        print_refusal(4, &mut text, 0);
-        return;
-    }
-    settle_year(&rights[..bytes], &mut text);
+    let mut text = [0u8; TEXT_ROOM];
+    let opened = settlement_run::opening(readable, bytes);
+    let standing = settle_year(opened, &rights[..bytes], &mut text);
+    finish(standing, &mut text);
 }
 
 // Whether there is nothing left to read: neither a byte nor an error.
@@ -38,140 +41,107 @@ fn is_at_end(fd: i32) -> bool {
     libc::read(fd, &mut probe) == 0
 }
 
-// Settles one hour after another. The year's hours and one more are enough: that one is refused.
-fn settle_year(rights: &[u8], text: &mut [u8]) {
+// Settles block after block. No run goes on past the year's hours and one more (theorem enough-blocks), so that many are read at most.
+fn settle_year(run: Run, rights: &[u8], text: &mut [u8]) -> Standing
+    requires { ⌜ (stepRoom ≤ length (now text)) × (run .end ≤ length (now text)) ⌝ }
+    ensures { λ r. ⌜ r .run .end ≤ length (now (text .exit)) ⌝ }
+{
     let mut standing = Standing {
-        going: true,
-        refusal: 0,
-        end: 0,
-        book: Book::fresh(),
+        going: run.refusal == 0,
+        whole: true,
+        run,
     };
+    let mut block = [0u8; hour_block::HOUR_BYTES];
     let mut blocks = calendar::HOURS_IN_YEAR + 1;
     while standing.going & (0 < blocks) {
-        standing = settle_block(rights, standing, text);
+        standing = read_block(standing, rights, &mut block, text);
         blocks -= 1;
     }
-    if standing.refusal != 0 {
-        print_refusal(standing.refusal, text, standing.end);
+    standing
+}
+
+// Reads the next block, of which the last may be short, and settles it.
+fn read_block(mut standing: Standing, rights: &[u8], block: &mut [u8], text: &mut [u8]) -> Standing
+    requires { ⌜ (stepRoom ≤ length (now text)) × (standing .run .end ≤ length (now text)) ⌝ }
+    ensures { λ r. ⌜ r .run .end ≤ length (now (text .exit)) ⌝ }
+{
+    let bytes = io::read_full(STDIN_FILENO, block);
+    if bytes == 0 {
+        standing.going = false;
+        return standing;
+    }
+    let run = standing.run;
+    settle_block(run, rights, &block[..bytes], text)
+}
+
+// One step. Where the buffer is full, its text is written out and the step is taken again.
+fn settle_block(run: Run, rights: &[u8], block: &[u8], text: &mut [u8]) -> Standing
+    requires { ⌜ (stepRoom ≤ length (now text)) × (run .end ≤ length (now text)) ⌝ }
+    ensures { λ r. ⌜ r .run .full ≡ false ⌝ }
+    ensures { λ r. ⌜ r .run .end ≤ length (now (text .exit)) ⌝ }
+{
+    let next = settlement_run::step(run, rights, block, text);
+    if next.full {
+        return settle_emptied(next, rights, block, text);
+    }
+    Standing {
+        going: next.refusal == 0,
+        whole: true,
+        run: next,
+    }
+}
+
+// The step with an empty buffer, which has room for it.
+fn settle_emptied(mut run: Run, rights: &[u8], block: &[u8], text: &mut [u8]) -> Standing
+    requires { ⌜ (stepRoom ≤ length (now text)) × (run .end ≤ length (now text)) ⌝ }
+    ensures { λ r. ⌜ r .run .full ≡ false ⌝ }
+    ensures { λ r. ⌜ r .run .end ≤ length (now (text .exit)) ⌝ }
+{
+    let whole = write_out(STDOUT_FILENO, text, run.end);
+    run.end = 0;
+    let next = settlement_run::step(run, rights, block, text);
+    Standing {
+        going: whole & (next.refusal == 0),
+        whole,
+        run: next,
+    }
+}
+
+// The rest of the statement; then on standard error the sentence on a refusal, or that the statement is not whole.
+fn finish(standing: Standing, text: &mut [u8])
+    requires { ⌜ standing .run .end ≤ length (now text) ⌝ }
+{
+    let run = standing.run;
+    if !print_last(standing, text) {
+        io::write_all(
+            STDERR_FILENO,
+            b"The statement could not be written out whole.\n",
+        );
         return;
     }
-    print_fund(standing.book, text, standing.end);
+    let end = settlement_run::explain(run, text);
+    write_out(STDERR_FILENO, text, end);
 }
 
-// Reads the next hour and settles it. The input may have ended, or broken off within the hour.
-fn settle_block(rights: &[u8], standing: Standing, text: &mut [u8]) -> Standing {
-    let mut block = [0u8; hour_block::HOUR_BYTES];
-    let bytes = io::read_full(STDIN_FILENO, &mut block);
-    if bytes == 0 {
-        return stopped(standing, 0);
+// The text that is left and the last line; false if they, or text before them, could not be written.
+fn print_last(standing: Standing, text: &mut [u8]) -> bool
+    requires { ⌜ standing .run .end ≤ length (now text) ⌝ }
+{
+    if !standing.whole {
+        return false;
     }
-    if bytes < hour_block::HOUR_BYTES {
-        return stopped(standing, 4);
+    let mut run = standing.run;
+    if !write_out(STDOUT_FILENO, text, run.end) {
+        return false;
     }
-    let after = settle_hour(rights, &block, standing, text);
-    if !after.going {
-        return after;
-    }
-    let closed = close_month(after, text);
-    close_year(closed, text)
+    run.end = 0;
+    let closed = settlement_run::closing(run, text);
+    write_out(STDOUT_FILENO, text, closed.end)
 }
 
-// The next hour, from its bytes.
-fn settle_hour(rights: &[u8], block: &[u8], standing: Standing, text: &mut [u8]) -> Standing {
-    let mut prices = [0i32; numbers::NODES];
-    let decoded = hour_block::decode(block, &mut prices);
-    if decoded.refusal != 0 {
-        return stopped(standing, decoded.refusal);
-    }
-    let mut lines = [0i64; numbers::OWNERS];
-    let book = standing.book;
-    let settled = book.hour(rights, &prices, decoded.amount, &mut lines);
-    print_event(b'H', book.hours, settled, &lines, standing, text)
-}
-
-// The month end, if it is due.
-fn close_month(standing: Standing, text: &mut [u8]) -> Standing {
-    let book = standing.book;
-    if book.is_due(Event::MonthEnd) {
-        let mut lines = [0i64; numbers::OWNERS];
-        let settled = book.month_end(&mut lines);
-        return print_event(b'M', book.months, settled, &lines, standing, text);
-    }
-    standing
-}
-
-// The year end, if it is due.
-fn close_year(standing: Standing, text: &mut [u8]) -> Standing {
-    let book = standing.book;
-    if book.is_due(Event::YearEnd) {
-        let mut lines = [0i64; numbers::OWNERS];
-        let settled = book.year_end(&mut lines);
-        return print_event(b'Y', 0, settled, &lines, standing, text);
-    }
-    standing
-}
-
-// Appends an accepted event's lines and takes its book; a refused event stops the settlement.
-fn print_event(
-    tag: u8,
-    number: u64,
-    settled: Settled,
-    lines: &[i64],
-    standing: Standing,
-    text: &mut [u8],
-) -> Standing {
-    if settled.refusal != 0 {
-        return stopped(standing, settled.refusal);
-    }
-    let from = make_room(text, standing.end);
-    let end = statement_text::write_event(tag, number, lines, text, from);
-    let book = settled.book;
-    Standing {
-        going: true,
-        refusal: 0,
-        end,
-        book,
-    }
-}
-
-// The settlement stops here, with this refusal or 0.
-fn stopped(standing: Standing, refusal: u8) -> Standing {
-    let book = standing.book;
-    Standing {
-        going: false,
-        refusal,
-        end: standing.end,
-        book,
-    }
-}
-
-// A refusal's line, and all text before it.
-fn print_refusal(refusal: u8, text: &mut [u8], end: usize) {
-    let from = make_room(text, end);
-    let last = statement_text::write_refusal(refusal, text, from);
-    write_out(text, last);
-}
-
-// The last line, and all text before it.
-fn print_fund(book: Book, text: &mut [u8], end: usize) {
-    let from = make_room(text, end);
-    let last = statement_text::write_fund(book.monthsurplus, book.yearsurplus, text, from);
-    write_out(text, last);
-}
-
-// The place to go on from: the end of the text, or the start once there is no room for an event's lines behind it.
-fn make_room(text: &[u8], end: usize) -> usize {
-    if end <= text.len() {
-        if statement_text::EVENT_ROOM <= text.len() - end {
-            return end;
-        }
-    }
-    write_out(text, end);
-    0
-}
-
-fn write_out(text: &[u8], end: usize) {
-    if end <= text.len() {
-        io::write_all(STDOUT_FILENO, &text[..end]);
-    }
+// Writes the start of the buffer, all of it or false.
+fn write_out(fd: i32, text: &[u8], end: usize) -> bool
+    requires { ⌜ end ≤ length (now text) ⌝ }
+{
+    io::write_all(fd, &text[..end])
 }

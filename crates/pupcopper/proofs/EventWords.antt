@@ -21,7 +21,7 @@ use Rattle.pupcopper.proofs.WordRows.{words-clear, words-most}
 
 module _ (call : Call) (words : BookWords) (report lent : List ℤ) where
   abbrev own : ℕ
-  own = wordsRefusal words (length report)
+  own = wordsRefusal settledWords words (length report)
 
   abbrev book : Book
   book = bookFrom words
@@ -46,7 +46,7 @@ module _ (call : Call) (words : BookWords) (report lent : List ℤ) where
             λ fits.
             subst (λ (r : List ℤ). namesRecord call number (recordIn r) ≡ true)
             (sym (written ∙ ap (λ (wrong : Bool). cond wrong report (settledReport 0 0 0)) fits))
-            (names-none call number (omega (arith, is, words-most words (length report))));
+            (names-none call number (omega (arith, is, words-most settledWords words (length report))));
         reports =
             zeros (isWrongReport settledWords (length report)) reportAfter _ _ (answer-refused number (fund call book) 0 some) (answer-refused number (demand call book) 0 some)
             written;
@@ -103,7 +103,7 @@ module _ (call : Call) (words : BookWords) (report lent : List ℤ) where
           reports =
               written
               ∙ (λ i. settledReport (sym (ap recordIn written) i) ((answered .reportsFund ∙ by-number (fund call book) 0) i) ((answered .reportsDemand ∙ by-number (demand call book) 0) i))
-              ∙ sym (ap (λ (wrong : Bool). cond wrong report (settledReport (recordIn reportAfter) (answerBy number (fund call book) 0) (answerBy number (demand call book) 0))) (words-clear words (length report) clear .1));
+              ∙ sym (ap (λ (wrong : Bool). cond wrong report (settledReport (recordIn reportAfter) (answerBy number (fund call book) 0) (answerBy number (demand call book) 0))) (words-clear settledWords words (length report) clear .1));
           givesBook = kept ∙ words-of (ℕ-discrete number 0);
           writesLines = answered .writesLines ∙ by-number (lines call book) lent;
         }

@@ -73,7 +73,7 @@ module _ (entry : HostEntry) (words : BookWords) (good : Good words)
     unchanged : isWrongReport settledWords (length (entry .report)) ≡ true → entry .words ≡ words
     unfolding eventRefusal
     unchanged wrong =
-        let own = wrong-report words (length (entry .report)) (good .counted) wrong in
+        let own = wrong-report settledWords words (length (entry .report)) (good .counted) wrong in
         let is-4 = settles .number ∙ ap (λ (n : ℕ). numberOf n (refusal call book (length (entry .lent)))) (sym own) in
         settles .givesBook ∙ answer-refused number (wordsOf (bookAfter call book)) words (λ z. omega (arith, is-4, z))
 
@@ -82,7 +82,7 @@ module _ (entry : HostEntry) (words : BookWords) (good : Good words)
       unfolding eventRefusal
       number-is =
           settles .number
-          ∙ answer-accepted _ _ _ (sym (good-words words (length (entry .report)) (good .counted) fits (good .marked) (good .drawn)))
+          ∙ answer-accepted _ _ _ (sym (good-words settledWords words (length (entry .report)) (good .counted) fits (good .marked) (good .drawn)))
 
       by-number : {A : Type 0} (accepted refused : A)
           → answerBy number accepted refused ≡ answerBy (refusal call book (length (entry .lent))) accepted refused

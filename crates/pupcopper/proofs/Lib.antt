@@ -4,4 +4,5 @@ pub mod Class
 pub mod EventWords
 pub mod HostClaim
 pub mod ReportWords
+pub mod RunWords
 pub mod WordRows

@@ -1,4 +1,4 @@
--- What the words of an event call for before there is a book, row by row, and the lengths of words that are a book's.
+-- What the words of a book and of a report call for before there is a book, row by row, and the lengths of words that are a book's.
 -- Assumes nothing.
 use Prim.Native.Nat.{ℕ, _≤_}
 use mathlib.Core.Path.{_≡_, refl, sym, _∙_}
@@ -11,7 +11,7 @@ use borrow.Author.Tests.{eqb-true, not-false}
 use Rattle.numbers.proofs.Booleans.{both-true}
 use Rattle.numbers.proofs.Refusals.{refusal-none, refusal-here, refusal-next, refusal-clear, refusal-most}
 use Rattle.pupcopper.specs.BookWords.{BookWords, countWords, shortfallWords, surplusWords, isWrongCount, isWrongMark, isOverdrawn}
-use Rattle.pupcopper.specs.Calls.{isWrongReport, settledWords, wordsRefusal, openRefusal}
+use Rattle.pupcopper.specs.Calls.{isWrongReport, wordsRefusal, openRefusal}
 
 -- so many words are a book's
 pub record Long (words : BookWords) : Type 0 where
@@ -41,44 +41,44 @@ module _ (words : BookWords) where
   unfolding openRefusal
   open-right right = sym (refusal-next 4 [] right ∙ refusal-none)
 
-module _ (words : BookWords) (report : ℕ) where
-  pub wrong-count : isWrongCount words ≡ true → 4 ≡ wordsRefusal words report
+module _ (places : ℕ) (words : BookWords) (report : ℕ) where
+  pub wrong-count : isWrongCount words ≡ true → 4 ≡ wordsRefusal places words report
   unfolding wordsRefusal
   wrong-count wrong = sym (refusal-here 4 _ wrong)
 
   module _ (right : isWrongCount words ≡ false) where
-    pub wrong-report : isWrongReport settledWords report ≡ true → 4 ≡ wordsRefusal words report
+    pub wrong-report : isWrongReport places report ≡ true → 4 ≡ wordsRefusal places words report
     unfolding wordsRefusal
     wrong-report wrong = sym (refusal-next 4 _ right ∙ refusal-here 4 _ wrong)
 
-    module _ (fits : isWrongReport settledWords report ≡ false) where
-      pub wrong-mark : isWrongMark words ≡ true → 1 ≡ wordsRefusal words report
+    module _ (fits : isWrongReport places report ≡ false) where
+      pub wrong-mark : isWrongMark words ≡ true → 1 ≡ wordsRefusal places words report
       unfolding wordsRefusal
       wrong-mark wrong = sym (refusal-next 4 _ right ∙ refusal-next 4 _ fits ∙ refusal-here 1 _ wrong)
 
       module _ (marked : isWrongMark words ≡ false) where
-        pub overdrawn : isOverdrawn words ≡ true → 1 ≡ wordsRefusal words report
+        pub overdrawn : isOverdrawn words ≡ true → 1 ≡ wordsRefusal places words report
         unfolding wordsRefusal
         overdrawn wrong =
             sym (refusal-next 4 _ right ∙ refusal-next 4 _ fits ∙ refusal-next 1 _ marked ∙ refusal-here 1 _ wrong)
 
-        pub good-words : isOverdrawn words ≡ false → 0 ≡ wordsRefusal words report
+        pub good-words : isOverdrawn words ≡ false → 0 ≡ wordsRefusal places words report
         unfolding wordsRefusal
         good-words good =
             sym
             (refusal-next 4 _ right ∙ refusal-next 4 _ fits ∙ refusal-next 1 _ marked ∙ refusal-next 1 _ good ∙ refusal-none)
 
   -- none of them: the words are a book's, and the report has its places
-  pub words-clear : wordsRefusal words report ≡ 0
-      → (isWrongCount words ≡ false) × (isWrongReport settledWords report ≡ false) × (isWrongMark words ≡ false) × (isOverdrawn words ≡ false)
+  pub words-clear : wordsRefusal places words report ≡ 0
+      → (isWrongCount words ≡ false) × (isWrongReport places report ≡ false) × (isWrongMark words ≡ false) × (isOverdrawn words ≡ false)
   unfolding wordsRefusal
   words-clear clear =
       let r1 = refusal-clear 4 (isWrongCount words) _ (omega arith) clear in
-      let r2 = refusal-clear 4 (isWrongReport settledWords report) _ (omega arith) (r1 .1) in
+      let r2 = refusal-clear 4 (isWrongReport places report) _ (omega arith) (r1 .1) in
       let r3 = refusal-clear 1 (isWrongMark words) _ (omega arith) (r2 .1) in
       let r4 = refusal-clear 1 (isOverdrawn words) [] (omega arith) (r3 .1) in
       (r1 .0, r2 .0, r3 .0, r4 .0)
 
-  pub words-most : wordsRefusal words report ≤ 4
+  pub words-most : wordsRefusal places words report ≤ 4
   unfolding wordsRefusal
   words-most = refusal-most 1 4 _ refl

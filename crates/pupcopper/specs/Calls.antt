@@ -87,20 +87,20 @@ settledReport faulty fund demand = pos faulty ∷ pos fund ∷ pos demand ∷ []
 abbrev pub settledWords : ℕ
 settledWords = 3
 
--- what the words of an event call for before there is a book: 4 for their number; 1, spoiled book, for a mark that is neither 0 nor 1
--- and for a negative surplus
-unfoldable pub wordsRefusal : BookWords → ℕ → ℕ
-wordsRefusal words report =
+-- what a book's words and a report that should have so many words call for before there is a book: 4 for their number; 1, spoiled book,
+-- for a mark that is neither 0 nor 1 and for a negative surplus
+unfoldable pub wordsRefusal : ℕ → BookWords → ℕ → ℕ
+wordsRefusal places words report =
     firstRefusal
     ((4 if isWrongCount words)
-    ∷ (4 if isWrongReport settledWords report)
+    ∷ (4 if isWrongReport places report)
     ∷ (1 if isWrongMark words)
     ∷ (1 if isOverdrawn words)
     ∷ [])
 
 -- the refusal of an event, with a report of so many words and so many lines lent
 unfoldable pub eventRefusal : Call → BookWords → ℕ → ℕ → ℕ
-eventRefusal call words report places = numberOf (wordsRefusal words report) (refusal call (bookFrom words) places)
+eventRefusal call words report places = numberOf (wordsRefusal settledWords words report) (refusal call (bookFrom words) places)
 
 -- the record number in a report
 abbrev pub recordIn : List ℤ → ℕ

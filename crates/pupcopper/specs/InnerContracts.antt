@@ -1,9 +1,9 @@
 -- For the contracts of inner functions alone, no part of what a call promises: what a reader gives in numbers, a book taken from words,
--- and amounts that fit 64 bits with their sign.
+-- amounts that fit 64 bits with their sign, and a run that stands at a book.
 -- Assumes nothing.
-use Prim.Native.Nat.{_^_, _<_}
+use Prim.Native.Nat.{ℕ, _^_, _<_}
 use mathlib.Core.Path.{_≡_}
-use mathlib.Core.Bool.{cond}
+use mathlib.Core.Bool.{false, cond}
 use mathlib.Core.List.{List}
 use lib.ListN.{length}
 use lib.IntN.{ℤ}
@@ -11,6 +11,7 @@ use Rattle.rights.specs.declared.reader.Given.{Given}
 use Rattle.rights.specs.Reader.{givenNumber, givenRight, saysNone}
 use Rattle.settlement.specs.declared.Book.{Book}
 use Rattle.settlement.specs.declared.Settled.{Settled}
+use Rattle.settlement_run.specs.declared.Run.{Run}
 use Rattle.pupcopper.specs.declared.book_words.Taken.{Taken}
 use Rattle.pupcopper.specs.declared.reports.Told.{Told}
 use Rattle.pupcopper.specs.BookWords.{BookWords, bookFrom}
@@ -22,7 +23,7 @@ toldOf given = record { number = givenNumber given; none = cond (saysNone given)
 
 -- refused by its words: the report has zeros, if it has its places; else the book, and the report is as it was
 pub record Takes (words : BookWords) (report : List ℤ) (taken : Taken) (after : List ℤ) : Type 0 where
-  pub number : taken .refusal ≡ wordsRefusal words (length report)
+  pub number : taken .refusal ≡ wordsRefusal settledWords words (length report)
   pub refused : (taken .refusal ≡ 0 → ⊥) → after ≡ cond (isWrongReport settledWords (length report)) report (settledReport 0 0 0)
   pub given : taken .refusal ≡ 0 → taken .book ≡ bookFrom words
   pub kept : taken .refusal ≡ 0 → after ≡ report
@@ -38,3 +39,8 @@ pub record ResultFits (result : Settled) : Type 0 where
   pub paidFrom : result .fund < 2 ^ 63
   pub wanted : result .demand < 2 ^ 63
   pub kept : result .refusal ≡ 0 → SurplusesFit (result .book)
+
+-- the run that stands at a book, with the refusal that stopped it or 0
+abbrev pub runAt : Book → ℕ → ℕ → Run
+runAt book refusal end =
+    record { full = false; end = end; refusal = refusal; tag = 0; number = 0; faulty = 0; book = book }

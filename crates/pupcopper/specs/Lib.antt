@@ -3,3 +3,4 @@ pub mod BookWords
 pub mod Calls
 pub mod HostLedger
 pub mod InnerContracts
+pub mod RunCalls

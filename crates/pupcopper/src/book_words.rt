@@ -41,7 +41,13 @@ pub(crate) fn take(
 ) -> Taken
     ensures { λ r. ⌜ Takes (wordsIn (now (counts .entry)) (now (shortfalls .entry)) (now (surpluses .entry))) (now (report .entry)) r (now (report .exit)) ⌝ }
 {
-    let refusal = refusal(counts, shortfalls, surpluses, report.len());
+    let refusal = refusal(
+        counts,
+        shortfalls,
+        surpluses,
+        report.len(),
+        reports::SETTLED_WORDS,
+    );
     if refusal != 0 {
         reports::write_refused(report);
         return Taken {
@@ -55,14 +61,20 @@ pub(crate) fn take(
     }
 }
 
-// What the words of an event call for before there is a book: 4, 1, or 0.
-fn refusal(counts: &[u64], shortfalls: &[u64], surpluses: &[i64], report: usize) -> u8
-    ensures { λ r. ⌜ r ≡ wordsRefusal (wordsIn (now (counts .entry)) (now (shortfalls .entry)) (now (surpluses .entry))) report ⌝ }
+// What the words of a book and of a report that should have so many call for before there is a book: 4, 1, or 0.
+pub(crate) fn refusal(
+    counts: &[u64],
+    shortfalls: &[u64],
+    surpluses: &[i64],
+    report: usize,
+    places: usize,
+) -> u8
+    ensures { λ r. ⌜ r ≡ wordsRefusal places (wordsIn (now (counts .entry)) (now (shortfalls .entry)) (now (surpluses .entry))) report ⌝ }
 {
     if is_no_book(counts.len(), shortfalls.len(), surpluses.len()) {
         return 4;
     }
-    if report != reports::SETTLED_WORDS {
+    if report != places {
         return 4;
     }
     if counts[2] > 1 {
@@ -75,9 +87,10 @@ fn refusal(counts: &[u64], shortfalls: &[u64], surpluses: &[i64], report: usize)
 }
 
 // The book that the words stand for.
-fn book_from(counts: &[u64], shortfalls: &[u64], surpluses: &[i64]) -> Book
+pub(crate) fn book_from(counts: &[u64], shortfalls: &[u64], surpluses: &[i64]) -> Book
     requires { ⌜ isWrongCount (wordsIn (now counts) (now shortfalls) (now surpluses)) ≡ false ⌝ }
     ensures { λ r. ⌜ r ≡ bookFrom (wordsIn (now (counts .entry)) (now (shortfalls .entry)) (now (surpluses .entry))) ⌝ }
+    ensures { λ r. ⌜ SurplusesFit r ⌝ }
 {
     let monthshort = cells_from(shortfalls, 0);
     let yearshort = cells_from(shortfalls, 1);

@@ -12,13 +12,17 @@ ghost use Rattle.target.specs.Rounding.{roundTenths};
 ghost use Rattle.target.specs.Target.{targetLines, targetRefusal};
 ghost use Rattle.settlement.specs.Book.{fresh as freshBook};
 ghost use Rattle.settlement.specs.Events.{hourCall, monthEndCall, yearEndCall};
+ghost use Rattle.statement_text.specs.Buffer.{endAfter, textAfter};
+ghost use Rattle.statement_text.specs.Sentence.{sentence, sentenceRoom};
 ghost use Rattle.pupcopper.specs.Billing.{billingClass};
 ghost use Rattle.pupcopper.specs.BookWords.{wordsIn, wordsOf};
-ghost use Rattle.pupcopper.specs.Calls.{numberOf, reportRefusal, hourWords, hourReport, rightWords, rightReport, stepWords, stepReport, stepRefusal, outcomeWords, allocationWords, openRefusal, Settles};
+ghost use Rattle.pupcopper.specs.Calls.{numberOf, reportRefusal, hourWords, hourReport, rightWords, rightReport, stepWords, stepReport, stepRefusal, outcomeWords, allocationWords, openRefusal, wordsRefusal, Settles};
+ghost use Rattle.pupcopper.specs.RunCalls.{HostSteps, closedWords, closedReport, closingRun, closingText, reported};
 use settlement::Book;
 
 mod book_words;
 mod reports;
+mod runs;
 
 // ---- numbers only, for the billing host
 
@@ -219,4 +223,89 @@ pub extern "C" fn pupcopper_year_end(
     }
     let book = taken.book;
     book_words::give_back(book.year_end(lines), counts, shortfalls, surpluses, report)
+}
+
+// ---- a run as the program makes it: a step for each block, then the closing
+
+// One block of the program's input: the hour, and the month end and the year end where they are due. Their lines are appended to the
+// text behind its end.
+#[no_mangle]
+pub extern "C" fn pupcopper_step(
+    counts: &mut [u64],
+    shortfalls: &mut [u64],
+    surpluses: &mut [i64],
+    rights: &[u8],
+    block: &[u8],
+    text: &mut [u8],
+    end: usize,
+    report: &mut [u64],
+) -> u8
+    ensures { λ r. ⌜ HostSteps (now (rights .entry)) (now (block .entry)) (wordsIn (now (counts .entry)) (now (shortfalls .entry)) (now (surpluses .entry))) (now (text .entry)) end (now (report .entry)) r (wordsIn (now (counts .exit)) (now (shortfalls .exit)) (now (surpluses .exit))) (now (text .exit)) (now (report .exit)) ⌝ }
+{
+    let refusal = book_words::refusal(
+        counts,
+        shortfalls,
+        surpluses,
+        report.len(),
+        runs::STEPPED_WORDS,
+    );
+    if refusal != 0 {
+        runs::write_stepped(runs::unmoved(end), report);
+        return refusal;
+    }
+    let book = book_words::book_from(counts, shortfalls, surpluses);
+    let run = runs::run_from(book, 0, end);
+    let next = settlement_run::step(run, rights, block, text);
+    let after = next.book;
+    book_words::write_book(after, counts, shortfalls, surpluses);
+    runs::write_stepped(next, report);
+    next.refusal
+}
+
+// What comes after the last block: both surpluses, or the refusal that stopped the run.
+#[no_mangle]
+pub extern "C" fn pupcopper_closing(
+    counts: &[u64],
+    shortfalls: &[u64],
+    surpluses: &[i64],
+    refusal: u8,
+    text: &mut [u8],
+    end: usize,
+    report: &mut [u64],
+) -> u8
+    ensures { λ r. ⌜ r ≡ wordsRefusal closedWords (wordsIn (now (counts .entry)) (now (shortfalls .entry)) (now (surpluses .entry))) (length (now (report .entry))) ⌝ }
+    ensures { λ _. ⌜ now (text .exit) ≡ closingText (wordsIn (now (counts .entry)) (now (shortfalls .entry)) (now (surpluses .entry))) refusal (now (text .entry)) end (length (now (report .entry))) ⌝ }
+    ensures { λ _. ⌜ now (report .exit) ≡ reported closedWords (now (report .entry)) (closedReport (closingRun (wordsIn (now (counts .entry)) (now (shortfalls .entry)) (now (surpluses .entry))) refusal (now (text .entry)) end (length (now (report .entry))))) ⌝ }
+{
+    let refused = book_words::refusal(
+        counts,
+        shortfalls,
+        surpluses,
+        report.len(),
+        runs::CLOSED_WORDS,
+    );
+    if refused != 0 {
+        runs::write_closed(runs::unmoved(end), report);
+        return refused;
+    }
+    let book = book_words::book_from(counts, shortfalls, surpluses);
+    let closed = settlement_run::closing(runs::run_from(book, refusal, end), text);
+    runs::write_closed(closed, report);
+    0
+}
+
+// The sentence on a refusal, behind a place of the text. Gives the place behind it.
+#[no_mangle]
+pub extern "C" fn pupcopper_sentence(
+    letter: u8,
+    number: u64,
+    refusal: u8,
+    faulty: u64,
+    text: &mut [u8],
+    at: usize,
+) -> usize
+    ensures { λ r. ⌜ r ≡ endAfter sentenceRoom (sentence letter number refusal faulty) (now (text .entry)) at ⌝ }
+    ensures { λ _. ⌜ now (text .exit) ≡ textAfter sentenceRoom (sentence letter number refusal faulty) (now (text .entry)) at ⌝ }
+{
+    statement_text::write_sentence(letter, number, refusal, faulty, text, at)
 }

@@ -3,12 +3,15 @@
 use Prim.Native.Nat.{ℕ, _+_, _*_, _≤_, _<_}
 use mathlib.Core.Path.{_≡_, refl}
 use mathlib.Core.Bool.{true}
+use mathlib.Core.List.{List}
 use native.Mathlib.Omega.{arith}
 use lib.ListN.{length}
+use lib.IntN.{ℤ}
 use borrow.Author.Tests.{eqb-true}
 use Rattle.numbers.specs.Limits.{mostCents}
 use Rattle.calendar.specs.Year.{hoursInYear}
 use Rattle.rights.specs.Layout.{recordCount}
+use Rattle.rights.specs.Faults.{namesFault}
 use Rattle.rights.proofs.Faults.{named-within as file-named-within, names-none as file-names-none}
 use Rattle.settlement.specs.declared.Book.{Book}
 use Rattle.settlement.specs.Book.{fresh, mostSurplus, fundLeft}
@@ -84,3 +87,9 @@ unfolding namesRecord
 names-none (hourCall file prices collected) number low = file-names-none (length prices) file number low
 names-none monthEndCall number low = refl
 names-none yearEndCall number low = refl
+
+-- an hour's names a fault of its file
+pub names-of-hour : (file : List ℕ) (prices : List ℤ) (collected : ℤ) (number faulty : ℕ)
+    → namesRecord (hourCall file prices collected) number faulty ≡ namesFault (length prices) file number faulty
+unfolding namesRecord
+names-of-hour file prices collected number faulty = refl

@@ -43,8 +43,8 @@ a-record monthEndCall book places = (0, refl)
 a-record yearEndCall book places = (0, refl)
 
 -- a result and lines that answer a call
-answer : (call : Call) (book : Book) (lent : List ℤ) → (result : Settled) × (written : List ℤ) × Answered call book lent result written
-answer call book lent =
+pub an-answer : (call : Call) (book : Book) (lent : List ℤ) → (result : Settled) × (written : List ℤ) × Answered call book lent result written
+an-answer call book lent =
     let named = a-record call book (length lent) in
     let number = refusal call book (length lent) in (
       record {
@@ -69,7 +69,7 @@ pub every-list : (calls : List Asked) → (ledger : List Entry) × IsLedger ledg
 every-list [] = ([], tt, refl)
 every-list (call ∷ calls) =
     let below = every-list calls in
-    let answered = answer (call .call) (bookAt (below .0)) (call .lent) in (
+    let answered = an-answer (call .call) (bookAt (below .0)) (call .lent) in (
       record { call = call .call; lent = call .lent; result = answered .0; written = answered .1 } ∷ below .0,
       (answered .2, below .1),
       ap (call ∷_) (below .2),

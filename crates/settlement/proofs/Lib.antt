@@ -3,6 +3,7 @@ pub mod Amounts
 pub mod ClaimHolds
 pub mod EntryParts
 pub mod EveryList
+pub mod HoursAfter
 pub mod Kept
 pub mod KeptHour
 pub mod KeptMonth
@@ -12,6 +13,7 @@ pub mod NeverStuck
 pub mod NotSpoiled
 pub mod Paying
 pub mod Refusing
+pub mod RunLaws
 pub mod SameCells
 pub mod Sane
 pub mod Shares

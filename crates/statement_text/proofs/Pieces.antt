@@ -40,23 +40,29 @@ wrote-byte before at byte room =
     }
 
 -- the front of a buffer up to the end of what was written, and what stands behind it
-front-length : (before : List ℕ) (at : ℕ) (text : List ℕ) → at + length text ≤ length before
+front-length : (before : List ℕ) (at : ℕ) (text : List ℕ) → at ≤ length before
     → length (take at before ++ text) ≡ at + length text
-front-length before at text room = simp (length-append, length-take) (omega arith)
+front-length before at text inside = simp (length-append, length-take) (omega arith)
 
-front : (before : List ℕ) (at : ℕ) (text : List ℕ) → at + length text ≤ length before
+pub front : (before : List ℕ) (at : ℕ) (text : List ℕ) → at ≤ length before
     → take (at + length text) (written before at text) ≡ take at before ++ text
 unfolding written
-front before at text room =
+front before at text inside =
     ap (take (at + length text)) (sym (append-assoc (take at before) text (drop (at + length text) before)))
-    ∙ take-at (take at before ++ text) (drop (at + length text) before) (at + length text) (front-length before at text room)
+    ∙ take-at (take at before ++ text) (drop (at + length text) before) (at + length text) (front-length before at text inside)
 
-behind : (before : List ℕ) (at : ℕ) (text : List ℕ) → at + length text ≤ length before
+behind : (before : List ℕ) (at : ℕ) (text : List ℕ) → at ≤ length before
     → drop (at + length text) (written before at text) ≡ drop (at + length text) before
 unfolding written
-behind before at text room =
+behind before at text inside =
     ap (drop (at + length text)) (sym (append-assoc (take at before) text (drop (at + length text) before)))
-    ∙ drop-at (take at before ++ text) (drop (at + length text) before) (at + length text) (front-length before at text room)
+    ∙ drop-at (take at before ++ text) (drop (at + length text) before) (at + length text) (front-length before at text inside)
+
+-- the buffer reaches to the end of what was written
+pub written-reaches : (before : List ℕ) (at : ℕ) (text : List ℕ) → at ≤ length before
+    → at + length text ≤ length (written before at text)
+unfolding written
+written-reaches before at text inside = simp (length-append, length-take) (omega arith)
 
 written-is : (before : List ℕ) (at : ℕ) (text : List ℕ)
     → written before at text ≡ take at before ++ (text ++ drop (at + length text) before)
@@ -67,7 +73,7 @@ written-then : (before : List ℕ) (at : ℕ) (one two : List ℕ) → at + leng
     → written (written before at one) (at + length one) two ≡ written before at (one ++ two)
 written-then before at one two room =
     written-is (written before at one) (at + length one) two
-    ∙ ap₂ (λ (l m : List ℕ). l ++ (two ++ m)) (front before at one room) rest
+    ∙ ap₂ (λ (l m : List ℕ). l ++ (two ++ m)) (front before at one (omega arith)) rest
     ∙ append-assoc (take at before) one (two ++ drop (at + length (one ++ two)) before)
     ∙ ap (λ (l : List ℕ). take at before ++ l) (sym (append-assoc one two (drop (at + length (one ++ two)) before)))
     ∙ sym (written-is before at (one ++ two))
@@ -75,7 +81,7 @@ written-then before at one two room =
     rest : drop (at + length one + length two) (written before at one) ≡ drop (at + length (one ++ two)) before
     rest =
         sym (drop-drop (length two) (at + length one) (written before at one))
-        ∙ ap (drop (length two)) (behind before at one room)
+        ∙ ap (drop (length two)) (behind before at one (omega arith))
         ∙ drop-drop (length two) (at + length one) before
         ∙ ap (λ (n : ℕ). drop n before) (add-assoc at (length one) (length two) ∙ ap (λ (n : ℕ). at + n) (sym (length-append one two)))
 

@@ -1,4 +1,5 @@
--- For the contracts of inner functions alone, no part of what a writing call promises: one piece of text is written.
+-- For the contracts of inner functions alone, no part of what a writing call promises: one piece of text is written, and the room
+-- that the parts of a sentence ask for.
 -- Assumes nothing.
 use Prim.Native.Nat.{ℕ, _+_}
 use mathlib.Core.Path.{_≡_}
@@ -10,3 +11,17 @@ use Rattle.statement_text.specs.Buffer.{written}
 pub record Wrote (text before : List ℕ) (at : ℕ) (after : List ℕ) (end : ℕ) : Type 0 where
   pub ends : end ≡ at + length text
   pub buffer : after ≡ written before at text
+
+-- the most bytes of a sentence's parts: "Month end" and a number; the refusal's word; " is refused:", a number, ", " and the word;
+-- ", record" and a number
+abbrev pub eventPhraseRoom : ℕ
+eventPhraseRoom = 30
+
+abbrev pub wordRoom : ℕ
+wordRoom = 16
+
+abbrev pub refusalPhraseRoom : ℕ
+refusalPhraseRoom = 51
+
+abbrev pub recordPhraseRoom : ℕ
+recordPhraseRoom = 29

@@ -1,25 +1,26 @@
 -- The printed case, as the definitions give it: its five lines, computed by the prover.
 -- Assumes nothing.
 use Prim.Native.Nat.{ℕ, _-_}
+use Prim.Native.Char.{code}
 use mathlib.Core.Path.{_≡_, refl}
 use mathlib.Core.List.{List, [], _∷_, _++_}
 use lib.ListN.{replicate}
 use lib.IntN.{ℤ, pos, negsuc}
 use Rattle.numbers.specs.Limits.{owners}
-use Rattle.statement_text.specs.Text.{digitsWithin, digits, signedDigits, lineText, ownerText, ownersText, eventText, fundText}
+use Rattle.statement_text.specs.Text.{bytes, digitsWithin, digits, signedDigits, fundLine, lineText, textOf, ownerLines, linesBelow, eventLines}
 
 -- the lines of an hour in which only the first two owners have one; negsuc n is -(n + 1)
 abbrev lines : ℤ → ℤ → List ℤ
 lines first second = first ∷ second ∷ replicate (owners - 2) (pos 0)
 
--- "H 0 0 8500", "H 0 1 -2500", "H 1 0 10000", "H 1 1 -2500", "F 1500 0", in bytes
+-- the five lines that the paper prints
 unfoldable pub printed : List ℕ
-printed =
-    72 ∷ 32 ∷ 48 ∷ 32 ∷ 48 ∷ 32 ∷ 56 ∷ 53 ∷ 48 ∷ 48 ∷ 10 ∷ 72 ∷ 32 ∷ 48 ∷ 32 ∷ 49 ∷ 32 ∷ 45 ∷ 50 ∷ 53 ∷ 48 ∷ 48 ∷ 10
-    ∷ 72 ∷ 32 ∷ 49 ∷ 32 ∷ 48 ∷ 32 ∷ 49 ∷ 48 ∷ 48 ∷ 48 ∷ 48 ∷ 10 ∷ 72 ∷ 32 ∷ 49 ∷ 32 ∷ 49 ∷ 32 ∷ 45 ∷ 50 ∷ 53 ∷ 48 ∷ 48
-    ∷ 10 ∷ 70 ∷ 32 ∷ 49 ∷ 53 ∷ 48 ∷ 48 ∷ 32 ∷ 48 ∷ 10 ∷ []
+printed = bytes "H 0 0 8500\nH 0 1 -2500\nH 1 0 10000\nH 1 1 -2500\nF 1500 0\n"
 
-pub printed-case : eventText 72 0 (lines (pos 8500) (negsuc 2499)) ++ eventText 72 1 (lines (pos 10000) (negsuc 2499)) ++ fundText 1500 0
+pub printed-case : textOf
+    (eventLines (code "H") 0 (lines (pos 8500) (negsuc 2499))
+    ++ eventLines (code "H") 1 (lines (pos 10000) (negsuc 2499))
+    ++ (fundLine 1500 0 ∷ []))
     ≡ printed
-unfolding printed eventText ownersText ownerText lineText fundText signedDigits digits digitsWithin
+unfolding printed bytes eventLines linesBelow ownerLines textOf lineText signedDigits digits digitsWithin
 printed-case = refl

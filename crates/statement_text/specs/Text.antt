@@ -1,11 +1,18 @@
 -- The printed statement: decimal numbers, the lines of an event, the last line and a refusal, as bytes.
 -- Assumes nothing.
 use Prim.Native.Nat.{ℕ, zero, suc, _+_, _*_, _/_, _%_}
+use Prim.Native.Char.{code}
+use Prim.Native.String.{String, [] as empty, _∷_ as _before_}
 use mathlib.Core.Bool.{cond}
 use mathlib.Core.List.{List, [], _∷_, _++_}
 use lib.Dec.{ltb}
 use lib.ListN.{length, getD}
 use lib.IntN.{ℤ, pos, negsuc}
+
+-- a text of plain letters, as bytes
+unfoldable pub bytes : String → List ℕ
+bytes empty = []
+bytes (letter before rest) = code letter ∷ bytes rest
 
 -- the bytes of a blank, a minus sign, a newline and a digit
 abbrev pub blank : ℕ
@@ -40,32 +47,38 @@ field n = (blank ∷ []) ++ digits n
 abbrev pub signedField : ℤ → List ℕ
 signedField z = (blank ∷ []) ++ signedDigits z
 
--- "an `H`, `M` or `Y`, the hour or month number (0 for the year), owner, cents"
-unfoldable pub lineText : ℕ → ℕ → ℕ → ℤ → List ℕ
-lineText tag number owner cents = (tag ∷ []) ++ field number ++ field owner ++ signedField cents ++ (newline ∷ [])
+-- a printed line: "an `H`, `M` or `Y`, the hour or month number (0 for the year), owner, cents"; "last an `F`, month surplus, year
+-- surplus"; "`R` and its number"
+pub data Line : Type 0 where
+  ownerLine : ℕ → ℕ → ℕ → ℤ → Line
+  fundLine : ℕ → ℕ → Line
+  refusalLine : ℕ → Line
+
+unfoldable pub lineText : Line → List ℕ
+lineText (ownerLine tag number owner cents) =
+    (tag ∷ []) ++ field number ++ field owner ++ signedField cents ++ (newline ∷ [])
+lineText (fundLine month year) = (code "F" ∷ []) ++ field month ++ field year ++ (newline ∷ [])
+lineText (refusalLine number) = (code "R" ∷ []) ++ field number ++ (newline ∷ [])
+
+-- the text of lines, one after another
+unfoldable pub textOf : List Line → List ℕ
+textOf [] = []
+textOf (line ∷ rest) = lineText line ++ textOf rest
 
 -- "for each non-zero line"
-unfoldable pub ownerText : ℕ → ℕ → ℕ → ℤ → List ℕ
-ownerText tag number owner (pos zero) = []
-ownerText tag number owner (pos (suc n)) = lineText tag number owner (pos (suc n))
-ownerText tag number owner (negsuc n) = lineText tag number owner (negsuc n)
+unfoldable pub ownerLines : ℕ → ℕ → ℕ → ℤ → List Line
+ownerLines tag number owner (pos zero) = []
+ownerLines tag number owner (pos (suc n)) = ownerLine tag number owner (pos (suc n)) ∷ []
+ownerLines tag number owner (negsuc n) = ownerLine tag number owner (negsuc n) ∷ []
 
--- "owners rising": the texts of the owners below a number, one after another
-unfoldable pub ownersText : ℕ → ℕ → List ℤ → ℕ → List ℕ
-ownersText tag number lines zero = []
-ownersText tag number lines (suc n) = ownersText tag number lines n ++ ownerText tag number n (getD lines n (pos 0))
+-- "owners rising": the lines of the owners below a number, one after another
+unfoldable pub linesBelow : ℕ → ℕ → List ℤ → ℕ → List Line
+linesBelow tag number cents zero = []
+linesBelow tag number cents (suc n) = linesBelow tag number cents n ++ ownerLines tag number n (getD cents n (pos 0))
 
--- the text of an event
-unfoldable pub eventText : ℕ → ℕ → List ℤ → List ℕ
-eventText tag number lines = ownersText tag number lines (length lines)
-
--- "last an `F`, month surplus, year surplus"
-unfoldable pub fundText : ℕ → ℕ → List ℕ
-fundText month year = (70 ∷ []) ++ field month ++ field year ++ (newline ∷ [])
-
--- "A refusal prints `R` and its number"
-unfoldable pub refusalText : ℕ → List ℕ
-refusalText number = (82 ∷ []) ++ field number ++ (newline ∷ [])
+-- the lines of an event, from the cents of each owner
+unfoldable pub eventLines : ℕ → ℕ → List ℤ → List Line
+eventLines tag number cents = linesBelow tag number cents (length cents)
 
 -- the most bytes of a 64-bit number with its blank, and of a line with its letter, its three fields and its newline
 abbrev pub fieldRoom : ℕ

@@ -5,7 +5,12 @@ ghost use Prim.Native.Nat.{_+_, _<_, _≤_};
 ghost use lib.ListN.{length};
 ghost use Rattle.statement_text.specs.Buffer.{endAfter, textAfter};
 ghost use Rattle.statement_text.specs.InnerContracts.{Wrote};
-ghost use Rattle.statement_text.specs.Text.{digits, eventRoom, eventText, field, fieldRoom, fundText, lineRoom, lineText, ownerText, refusalText, signedDigits, signedField};
+ghost use Rattle.statement_text.specs.Text.{digits, eventLines, eventRoom, field, fieldRoom, fundLine, lineRoom, lineText, ownerLine, ownerLines, refusalLine, signedDigits, signedField, textOf};
+
+mod sentence;
+
+pub use sentence::SENTENCE_ROOM;
+pub use sentence::write_sentence;
 
 // The room that one line asks for, and that an event of 64 lines asks for.
 pub const LINE_ROOM: usize = 65;
@@ -14,8 +19,9 @@ pub const EVENT_ROOM: usize = 4160;
 
 // An event's lines, behind a place of the buffer. Gives the place behind them.
 pub fn write_event(tag: u8, number: u64, lines: &[i64], text: &mut [u8], at: usize) -> usize
-    ensures { λ r. ⌜ r ≡ endAfter (eventRoom (length (now (lines .entry)))) (eventText tag number (now (lines .entry))) (now (text .entry)) at ⌝ }
-    ensures { λ _. ⌜ now (text .exit) ≡ textAfter (eventRoom (length (now (lines .entry)))) (eventText tag number (now (lines .entry))) (now (text .entry)) at ⌝ }
+    ensures { λ r. ⌜ r ≡ endAfter (eventRoom (length (now (lines .entry)))) (textOf (eventLines tag number (now (lines .entry)))) (now (text .entry)) at ⌝ }
+    ensures { λ _. ⌜ now (text .exit) ≡ textAfter (eventRoom (length (now (lines .entry)))) (textOf (eventLines tag number (now (lines .entry)))) (now (text .entry)) at ⌝ }
+    ensures { λ r. ⌜ r ≤ at + eventRoom (length (now (lines .entry))) ⌝ }
 {
     if text.len() < at {
         return at;
@@ -28,8 +34,8 @@ pub fn write_event(tag: u8, number: u64, lines: &[i64], text: &mut [u8], at: usi
 
 // The last line: both surpluses.
 pub fn write_fund(month: u64, year: u64, text: &mut [u8], at: usize) -> usize
-    ensures { λ r. ⌜ r ≡ endAfter lineRoom (fundText month year) (now (text .entry)) at ⌝ }
-    ensures { λ _. ⌜ now (text .exit) ≡ textAfter lineRoom (fundText month year) (now (text .entry)) at ⌝ }
+    ensures { λ r. ⌜ r ≡ endAfter lineRoom (lineText (fundLine month year)) (now (text .entry)) at ⌝ }
+    ensures { λ _. ⌜ now (text .exit) ≡ textAfter lineRoom (lineText (fundLine month year)) (now (text .entry)) at ⌝ }
 {
     if text.len() < at {
         return at;
@@ -45,8 +51,8 @@ pub fn write_fund(month: u64, year: u64, text: &mut [u8], at: usize) -> usize
 
 // A refusal's line.
 pub fn write_refusal(number: u8, text: &mut [u8], at: usize) -> usize
-    ensures { λ r. ⌜ r ≡ endAfter lineRoom (refusalText number) (now (text .entry)) at ⌝ }
-    ensures { λ _. ⌜ now (text .exit) ≡ textAfter lineRoom (refusalText number) (now (text .entry)) at ⌝ }
+    ensures { λ r. ⌜ r ≡ endAfter lineRoom (lineText (refusalLine number)) (now (text .entry)) at ⌝ }
+    ensures { λ _. ⌜ now (text .exit) ≡ textAfter lineRoom (lineText (refusalLine number)) (now (text .entry)) at ⌝ }
 {
     if text.len() < at {
         return at;
@@ -62,7 +68,8 @@ pub fn write_refusal(number: u8, text: &mut [u8], at: usize) -> usize
 // Each owner's line.
 fn write_lines(tag: u8, number: u64, lines: &[i64], text: &mut [u8], at: usize) -> usize
     requires { ⌜ at + eventRoom (length (now lines)) ≤ length (now text) ⌝ }
-    ensures { λ r. ⌜ Wrote (eventText tag number (now (lines .entry))) (now (text .entry)) at (now (text .exit)) r ⌝ }
+    ensures { λ r. ⌜ Wrote (textOf (eventLines tag number (now (lines .entry)))) (now (text .entry)) at (now (text .exit)) r ⌝ }
+    ensures { λ r. ⌜ r ≤ at + eventRoom (length (now (lines .entry))) ⌝ }
 {
     let mut end = at;
     let mut owner = 0;
@@ -76,7 +83,7 @@ fn write_lines(tag: u8, number: u64, lines: &[i64], text: &mut [u8], at: usize) 
 // One owner's line, unless it is zero.
 fn write_owner(tag: u8, number: u64, owner: u64, cents: i64, text: &mut [u8], at: usize) -> usize
     requires { ⌜ at + lineRoom ≤ length (now text) ⌝ }
-    ensures { λ r. ⌜ Wrote (ownerText tag number owner cents) (now (text .entry)) at (now (text .exit)) r ⌝ }
+    ensures { λ r. ⌜ Wrote (textOf (ownerLines tag number owner cents)) (now (text .entry)) at (now (text .exit)) r ⌝ }
 {
     if cents == 0 {
         return at;
@@ -86,7 +93,7 @@ fn write_owner(tag: u8, number: u64, owner: u64, cents: i64, text: &mut [u8], at
 
 fn write_line(tag: u8, number: u64, owner: u64, cents: i64, text: &mut [u8], at: usize) -> usize
     requires { ⌜ at + lineRoom ≤ length (now text) ⌝ }
-    ensures { λ r. ⌜ Wrote (lineText tag number owner cents) (now (text .entry)) at (now (text .exit)) r ⌝ }
+    ensures { λ r. ⌜ Wrote (lineText (ownerLine tag number owner cents)) (now (text .entry)) at (now (text .exit)) r ⌝ }
 {
     let first = put(tag, text, at);
     let second = write_field(number, text, first);
@@ -96,7 +103,7 @@ fn write_line(tag: u8, number: u64, owner: u64, cents: i64, text: &mut [u8], at:
 }
 
 // A blank, then the number.
-fn write_field(number: u64, text: &mut [u8], at: usize) -> usize
+pub(crate) fn write_field(number: u64, text: &mut [u8], at: usize) -> usize
     requires { ⌜ at + fieldRoom ≤ length (now text) ⌝ }
     ensures { λ r. ⌜ Wrote (field number) (now (text .entry)) at (now (text .exit)) r ⌝ }
 {
@@ -138,7 +145,7 @@ fn write_number(number: u64, text: &mut [u8], at: usize) -> usize
 }
 
 // One byte.
-fn put(byte: u8, text: &mut [u8], at: usize) -> usize
+pub(crate) fn put(byte: u8, text: &mut [u8], at: usize) -> usize
     requires { ⌜ at < length (now text) ⌝ }
     ensures { λ r. ⌜ Wrote (byte ∷ []) (now (text .entry)) at (now (text .exit)) r ⌝ }
 {

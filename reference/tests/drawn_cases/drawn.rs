@@ -1,9 +1,11 @@
-//! Drawn rights, prices, books and numbers of words: mostly good ones, with
-//! edges and faults among them.
+//! Drawn rights, prices, blocks, books and numbers of words: mostly good ones,
+//! with edges and faults among them.
 
+mod blocks;
 mod books;
 mod market;
 
+pub use blocks::*;
 pub use books::*;
 pub use market::*;
 
@@ -31,4 +33,11 @@ pub fn old_lines(draws: &mut Draws, lent: usize) -> Row<i64> {
 
 pub fn old_words(draws: &mut Draws, lent: usize) -> Row<u64> {
     Row::lent(&[], lent, || draws.any())
+}
+
+/// The bytes that stand in a lent text.
+pub fn old_text(draws: &mut Draws, lent: usize) -> Row<u8> {
+    let first = draws.any() as u8;
+    let mut bytes = (0..=u8::MAX).cycle().skip(usize::from(first));
+    Row::lent(&[], lent, || bytes.next().unwrap_or(0))
 }

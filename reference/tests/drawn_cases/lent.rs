@@ -1,6 +1,6 @@
 //! The cells that a call is lent to write, before and after it.
 
-use reference::words::BookWords;
+use reference::words::{BookWords, LentText, CLOSED, STEPPED};
 
 /// A row of cells: those lent, and some behind them that no call may touch.
 #[derive(Clone, Default, PartialEq, Eq)]
@@ -34,10 +34,11 @@ pub struct Lent {
     pub surpluses: Row<i64>,
     pub lines: Row<i64>,
     pub payments: Row<u64>,
-    /// The report of a call without a book.
+    /// The report of all calls but the events.
     pub report: Row<u64>,
     /// The report of an event.
     pub settled: Row<i64>,
+    pub text: Row<u8>,
 }
 
 /// What a call gave: its refusal and the cells after it.
@@ -76,17 +77,44 @@ impl Lent {
         (book, self.lines.slice_mut(), self.settled.slice_mut())
     }
 
-    /// The record number of a target call or an event.
+    /// What a step and a closing are lent to write: the book, the text, which
+    /// has this end, and the report.
+    pub fn run_cells(&mut self, end: u64) -> (BookWords<'_>, LentText<'_>, &mut [u64]) {
+        let book = BookWords {
+            counts: self.counts.slice_mut(),
+            shortfalls: self.shortfalls.slice_mut(),
+            surpluses: self.surpluses.slice_mut(),
+        };
+        let bytes = self.text.slice_mut();
+        let text = LentText { bytes, end };
+        (book, text, self.report.slice_mut())
+    }
+
+    /// The text alone, written behind this place.
+    pub fn text_from(&mut self, end: u64) -> LentText<'_> {
+        self.run_cells(end).1
+    }
+
+    /// Where a report has the record number: last in a step's, else first.
+    fn record_place(&self) -> usize {
+        match self.report.lent {
+            STEPPED => STEPPED - 1,
+            _ => 0,
+        }
+    }
+
+    /// The record number of a target call, an event or a step.
     pub fn record(&self) -> u64 {
-        let report = self.report.slice().first().copied();
+        let report = self.report.slice().get(self.record_place()).copied();
         let settled = self.settled.slice().first().map(|word| *word as u64);
         settled.or(report).unwrap_or(0)
     }
 
     pub fn set_record(&mut self, record: u64) {
+        let place = self.record_place();
         match self.settled.slice_mut().first_mut() {
             Some(word) => *word = record as i64,
-            None => self.report.slice_mut()[0] = record,
+            None => self.report.slice_mut()[place] = record,
         }
     }
 
@@ -117,6 +145,15 @@ const STEP_NAMES: [&str; 10] = [
     "none left",
 ];
 
+/// The words of a step's report; a closing's has the first two.
+const STEPPED_NAMES: [&str; STEPPED] = [
+    "too little room",
+    "end of the text",
+    "refused event's letter",
+    "refused event's number",
+    "record number",
+];
+
 fn cell_name(row: &str, lent: usize, at: usize) -> String {
     let names: &[&str] = match (row, lent) {
         ("counts", _) => &["hours settled", "months closed", "ended mark"],
@@ -124,6 +161,7 @@ fn cell_name(row: &str, lent: usize, at: usize) -> String {
         ("report of the event", _) => &["record number", "F", "D"],
         ("report", 3) => &["day", "month", "peak"],
         ("report", 8 | 10) => &STEP_NAMES,
+        ("report", CLOSED | STEPPED) => &STEPPED_NAMES,
         _ => &[],
     };
     match (row, names.get(at)) {
@@ -158,6 +196,25 @@ fn row_table(rows: [Plain; 3]) -> String {
     text
 }
 
+/// The texts below each other, as far as a side has changed them.
+fn text_table(before: &Row<u8>, library: &Row<u8>, second: &Row<u8>) -> String {
+    let changed = |row: &Row<u8>, at: usize| row.cells[at] != before.cells[at];
+    let all = 0..before.cells.len();
+    let places = all.filter(|at| changed(library, *at) || changed(second, *at));
+    let places: Vec<usize> = places.collect();
+    let mut text = format!("text, {} bytes lent: ", before.lent);
+    let (Some(first), Some(last)) = (places.first(), places.last()) else {
+        return text + "untouched\n";
+    };
+    text += &format!("bytes {first} to {last} changed\n");
+    for (side, row) in [("library", library), ("second calculation", second)] {
+        let part = row.cells[*first..=*last].split_inclusive(|byte| *byte == b'\n');
+        let lines = part.map(|line| format!("  {}\n", line.escape_ascii()));
+        text += &format!("{side}:\n{}", lines.collect::<String>());
+    }
+    text
+}
+
 /// All that was lent to write, and the results side by side.
 pub fn table(before: &Lent, library: &Given, second: &Given) -> String {
     let heads = ["lent", "library", "second calculation"].map(String::from);
@@ -165,10 +222,13 @@ pub fn table(before: &Lent, library: &Given, second: &Given) -> String {
     let mut text = table_line("", heads, "");
     text += &table_line("refusal", [String::new(), ours, theirs], "");
     let after = library.lent.rows().into_iter().zip(second.lent.rows());
-    for (before, (library, second)) in before.rows().into_iter().zip(after) {
-        if !before.2.is_empty() {
-            text += &row_table([before, library, second]);
+    for (row, (ours, theirs)) in before.rows().into_iter().zip(after) {
+        if !row.2.is_empty() {
+            text += &row_table([row, ours, theirs]);
         }
+    }
+    if !before.text.cells.is_empty() {
+        text += &text_table(&before.text, &library.lent.text, &second.lent.text);
     }
     text + "(cells not listed are 0 before and after)"
 }

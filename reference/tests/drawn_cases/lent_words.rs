@@ -4,12 +4,13 @@
 
 use reference::draws::Draws;
 use reference::words::{self, Event, COUNTS, SETTLED, SHORTFALLS, SURPLUSES};
+use reference::words::{CLOSED, STEPPED, STEP_ROOM};
 
 use crate::calendar::compare_calendar;
 use crate::compare::{Case, Kind};
 use crate::drawn::{
-    draw_book, draw_market, lend_book, number_of, old_line, old_lines, old_words, spoil_words,
-    Market, Shape,
+    draw_book, draw_market, lend_book, number_of, old_line, old_lines, old_text, old_words,
+    spoil_words, Market, Shape,
 };
 use crate::lent::{Given, Lent, Row};
 use crate::library;
@@ -17,6 +18,7 @@ use crate::read::{compare_read, draw_file, Place};
 use crate::reader::compare_step;
 use crate::single_events::compare_event;
 use crate::split::compare_split;
+use crate::steps::{compare_block, compare_closing, draw_block, Step};
 use crate::targets::{compare_targets, Asked};
 
 /// A number of words that is not the one named.
@@ -106,6 +108,48 @@ fn compare_event_book(case: &mut Case, event: Event) {
     refused_untouched(&given, &lent);
 }
 
+/// What a step and a closing are lent, of which one part has another number of
+/// words.
+fn wrong_words(draws: &mut Draws, report_words: usize) -> Lent {
+    let book = draw_book(draws);
+    let mut words = [COUNTS, SHORTFALLS, SURPLUSES, report_words];
+    let at = draws.below(4) as usize;
+    words[at] = wrong(draws, words[at]);
+    let [counts, shortfalls, surpluses, report] = words;
+    let mut lent = lend_book(draws, &book, [counts, shortfalls, surpluses]);
+    spoil_words(draws, &mut lent, 3);
+    lent.report = old_words(draws, report);
+    let bytes = draws.one_of(&[0, STEP_ROOM]);
+    lent.text = old_text(draws, bytes);
+    lent
+}
+
+/// 4, and nothing was written but a report that has its words: the end that was
+/// given, and else zeros.
+fn refused_unmoved(given: &Given, mut before: Lent, report_words: usize, end: u64) {
+    let report = before.report.slice_mut();
+    if report.len() == report_words {
+        report.fill(0);
+        report[1] = end;
+    }
+    refused_untouched(given, &before);
+}
+
+fn compare_run_calls(case: &mut Case) {
+    let draws = &mut case.draws;
+    let book = draw_book(draws);
+    let block = draw_block(draws, &book);
+    let end = draws.one_of(&[0, 1, u64::MAX]);
+    let lent = wrong_words(draws, STEPPED);
+    let step = Step { block, end };
+    let given = compare_block(case, &step, &lent);
+    refused_unmoved(&given, lent, STEPPED, end);
+    let lent = wrong_words(&mut case.draws, CLOSED);
+    let refusal = case.draws.one_of(&[0, 4]);
+    let given = compare_closing(case, refusal, end, &lent);
+    refused_unmoved(&given, lent, CLOSED, end);
+}
+
 fn compare_open(case: &mut Case) {
     let draws = &mut case.draws;
     let [counts, shortfalls, surpluses] =
@@ -148,6 +192,7 @@ fn numbers_of_words() {
     };
     kind.run(|case| {
         compare_without_book(case);
+        compare_run_calls(case);
         let market = any_market(&mut case.draws);
         let collected = case.draws.one_of(&[0, 1_000, -1]);
         let hour = Event::Hour(market.hour(collected));

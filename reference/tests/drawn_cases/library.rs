@@ -2,7 +2,8 @@
 //! wrappers have the shape of `reference::words`, the second calculation's side.
 
 use reference::book::HourInput;
-use reference::words::{BookWords, Event};
+use reference::sentence::Stopped;
+use reference::words::{BookWords, Event, LentText};
 
 #[link(name = "pupcopper", kind = "static")]
 extern "C" {
@@ -92,6 +93,46 @@ extern "C" {
         report: *mut i64,
         report_words: usize,
     ) -> u8;
+    fn pupcopper_step(
+        counts: *mut u64,
+        counts_words: usize,
+        shortfalls: *mut u64,
+        shortfalls_words: usize,
+        surpluses: *mut i64,
+        surpluses_words: usize,
+        rights: *const u8,
+        rights_bytes: usize,
+        block: *const u8,
+        block_bytes: usize,
+        text: *mut u8,
+        text_bytes: usize,
+        end: usize,
+        report: *mut u64,
+        report_words: usize,
+    ) -> u8;
+    fn pupcopper_closing(
+        counts: *const u64,
+        counts_words: usize,
+        shortfalls: *const u64,
+        shortfalls_words: usize,
+        surpluses: *const i64,
+        surpluses_words: usize,
+        refusal: u8,
+        text: *mut u8,
+        text_bytes: usize,
+        end: usize,
+        report: *mut u64,
+        report_words: usize,
+    ) -> u8;
+    fn pupcopper_sentence(
+        letter: u8,
+        number: u64,
+        refusal: u8,
+        record: u64,
+        text: *mut u8,
+        text_bytes: usize,
+        at: usize,
+    ) -> usize;
 }
 
 // Why each call below is safe: every pointer and length are those of one Rust
@@ -249,4 +290,69 @@ fn end(call: End, book: BookWords, lines: &mut [i64], report: &mut [i64]) -> u64
         )
     };
     u64::from(refusal)
+}
+
+pub fn step(
+    book: BookWords,
+    rights: &[u8],
+    block: &[u8],
+    text: LentText,
+    report: &mut [u64],
+) -> u64 {
+    let refusal = unsafe {
+        pupcopper_step(
+            book.counts.as_mut_ptr(),
+            book.counts.len(),
+            book.shortfalls.as_mut_ptr(),
+            book.shortfalls.len(),
+            book.surpluses.as_mut_ptr(),
+            book.surpluses.len(),
+            rights.as_ptr(),
+            rights.len(),
+            block.as_ptr(),
+            block.len(),
+            text.bytes.as_mut_ptr(),
+            text.bytes.len(),
+            text.end as usize,
+            report.as_mut_ptr(),
+            report.len(),
+        )
+    };
+    u64::from(refusal)
+}
+
+pub fn closing(book: BookWords, refusal: u8, text: LentText, report: &mut [u64]) -> u64 {
+    let refusal = unsafe {
+        pupcopper_closing(
+            book.counts.as_ptr(),
+            book.counts.len(),
+            book.shortfalls.as_ptr(),
+            book.shortfalls.len(),
+            book.surpluses.as_ptr(),
+            book.surpluses.len(),
+            refusal,
+            text.bytes.as_mut_ptr(),
+            text.bytes.len(),
+            text.end as usize,
+            report.as_mut_ptr(),
+            report.len(),
+        )
+    };
+    u64::from(refusal)
+}
+
+/// The refusal crosses as one byte.
+pub fn sentence(stopped: &Stopped, text: LentText) -> u64 {
+    let place = unsafe {
+        pupcopper_sentence(
+            stopped.letter,
+            stopped.number,
+            stopped.refusal as u8,
+            stopped.record,
+            text.bytes.as_mut_ptr(),
+            text.bytes.len(),
+            text.end as usize,
+        )
+    };
+    place as u64
 }

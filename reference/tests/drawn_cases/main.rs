@@ -25,5 +25,6 @@ mod reader;
 mod rounding;
 mod single_events;
 mod split;
+mod steps;
 mod targets;
 mod worked_examples;

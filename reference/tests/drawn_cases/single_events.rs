@@ -64,7 +64,7 @@ fn draw_shape(draws: &mut Draws, book: &Book) -> Shape {
 }
 
 /// The positive targets of the hour together; some number if it has none.
-fn wants_of(market: &Market, book: &Book) -> u64 {
+pub fn wants_of(market: &Market, book: &Book) -> u64 {
     let rights = records(market.rights.slice());
     let targets = owner_targets(&rights, market.prices.slice(), book.hours);
     let wants = targets.map(|target| u64::try_from(target).unwrap_or(0));
@@ -72,7 +72,7 @@ fn wants_of(market: &Market, book: &Book) -> u64 {
 }
 
 /// An amount out of range, any, or around what is wanted and still may be carried.
-fn draw_collected(draws: &mut Draws, wants: u64, book: &Book) -> i64 {
+pub fn draw_collected(draws: &mut Draws, wants: u64, book: &Book) -> i64 {
     let any = draws.any();
     let carried = book.month_shortfalls.iter().chain(&book.year_shortfalls);
     let room = carried.fold(4_000_000_000, |room: u64, cell| room.saturating_sub(*cell));

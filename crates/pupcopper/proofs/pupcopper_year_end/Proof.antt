@@ -8,7 +8,7 @@ use lib.IntN.{ℤ}
 use Rattle.settlement.specs.declared.Book.{Book}
 use Rattle.settlement.specs.Events.{Call, yearEndCall, Answered}
 use Rattle.pupcopper.specs.BookWords.{BookWords, wordsIn, bookFrom}
-use Rattle.pupcopper.specs.Calls.{wordsRefusal}
+use Rattle.pupcopper.specs.Calls.{settledWords, wordsRefusal}
 use Rattle.pupcopper.proofs.EventWords.{refused-event, result-fits, settled-event}
 use Rattle.pupcopper.proofs.ReportWords.{report-long}
 use Rattle.pupcopper.proofs.WordRows.{words-clear}
@@ -33,7 +33,7 @@ abbrev report : tie.Start → List ℤ
 report c = c .args .report .now
 
 -- the words are a book's
-clear : (c : tie.Else1) → wordsRefusal (words (start-2 (c .before .before .before))) (length (report (start-2 (c .before .before .before)))) ≡ 0
+clear : (c : tie.Else1) → wordsRefusal settledWords (words (start-2 (c .before .before .before))) (length (report (start-2 (c .before .before .before)))) ≡ 0
 clear c = sym (c .before .before .before .take .ensures .number) ∙ c .if1 .left
 
 -- the event of that book
@@ -75,7 +75,7 @@ give-back-requires c κs =
     let called = c .before .before .before .before .before in
     let s = start-3 called in
     let open-book = called .before .before .before in
-    let good = words-clear (words s) (length (report s)) (clear open-book) in (
+    let good = words-clear settledWords (words s) (length (report s)) (clear open-book) in (
       good .0,
       (
         subst (λ (r : List ℤ). length r ≡ 3) (sym (open-book .before .before .before .take .ensures .kept (open-book .if1 .left))) (report-long 3 _ (good .1)),

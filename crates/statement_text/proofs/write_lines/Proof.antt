@@ -11,10 +11,10 @@ use mir.Val.{SFits}
 use mir.ValLaws.{toZ-ofZ}
 use Rattle.numbers.proofs.Signed.{fits-abs}
 use lib.ListN.{length, getD}
-use lib.IntN.{pos}
-use Rattle.statement_text.specs.Text.{lineRoom, ownerText, ownersText, eventText}
+use lib.IntN.{ℤ, pos}
+use Rattle.statement_text.specs.Text.{lineRoom, ownerLines, textOf, eventLines}
 use Rattle.statement_text.specs.InnerContracts.{Wrote}
-use Rattle.statement_text.proofs.Lines.{owners-none, owners-more, owner-length, wrote-owner}
+use Rattle.statement_text.proofs.Lines.{ownersText, owners-none, owners-more, owner-length, wrote-owner}
 use Rattle.statement_text.proofs.Pieces.{wrote-nothing, wrote-as}
 use Rattle.statement_text.proofs.write_lines.Statement.{statement}
 use Rattle.statement_text.proofs.write_lines.Tie as tie
@@ -59,7 +59,7 @@ loop-again c =
     let line = getD (now (start .args .lines)) (loop .owner) (pos 0) in
     let fits : SFits w64 line = record { sfits = c .before .before .before .before .write-owner-arg .given } in (
       omega arith,
-      wrote-owner _ _ _ _ (loop .inv .1) (wrote-as (ap (ownerText _ _ _) (toZ-ofZ w64 line fits)) (c .before .before .write-owner .ensures))
+      wrote-owner _ _ _ _ (loop .inv .1) (wrote-as (ap (λ (z : ℤ). textOf (ownerLines (start .args .tag) (start .args .number) (loop .owner) z)) (toZ-ofZ w64 line fits)) (c .before .before .write-owner .ensures))
           (omega (arith, start .pre)),
       owners-more _ _ _ _ (loop .inv .2) (owner-length _ _ _ line (start .fits .number .fits) (omega arith) (fits-abs w64 line fits)),
       c .before .before .write-owner .kept .1 .1 .1 .1 .0 ∙ loop .inv .3,
@@ -69,11 +69,13 @@ same-length : tie.Need-same-length Inv-loop μ-loop
 same-length c = c .before .loop .inv .3
 
 returns : tie.Need-returns Inv-loop μ-loop
-unfolding eventText
-returns c =
-    wrote-as
-    (ap (ownersText _ _ _) (le-antisymm (c .before .loop .inv .0) (c .loop-test .left)))
-    (c .before .loop .inv .1)
+unfolding eventLines
+returns c = (
+  wrote-as
+      (ap (ownersText _ _ _) (le-antisymm (c .before .loop .inv .0) (c .loop-test .left)))
+      (c .before .loop .inv .1),
+  omega (arith, c .before .loop .inv .1 .ends),
+)
 
 pub write-lines-spec : {M : Type 1} → statement M
 write-lines-spec =

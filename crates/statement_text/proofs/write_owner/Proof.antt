@@ -1,10 +1,11 @@
 -- `statement_text::write_owner` meets its contract: nothing for a zero line.
 -- Assumes nothing.
 use mathlib.Core.Path.{_∙_, ap}
+use lib.IntN.{ℤ}
 use mir.Syntax.{w64}
 use mir.Val.{toZ, ofZ}
 use mir.ValLaws.{toZ-ofZ}
-use Rattle.statement_text.specs.Text.{lineText}
+use Rattle.statement_text.specs.Text.{ownerLine, lineText}
 use Rattle.statement_text.proofs.Lines.{owner-zero, owner-line}
 use Rattle.statement_text.proofs.Pieces.{wrote-nothing, wrote-as}
 use mathlib.Core.Path.{sym}
@@ -24,8 +25,10 @@ same-length c = search needs
 
 returns-2 : tie.Need-returns-2
 returns-2 c =
+    let start = c .before .before .before .before .before .before in
     wrote-as
-    (ap (lineText _ _ _) (toZ-ofZ w64 _ (c .before .before .before .before .before .before .fits .cents)) ∙ sym (owner-line _ _ _ _ (λ e. c .before .before .before .before .if1 .left (ap (ofZ w64) e))))
+    (ap (λ (z : ℤ). lineText (ownerLine (start .args .tag) (start .args .number) (start .args .owner) z)) (toZ-ofZ w64 _ (start .fits .cents))
+    ∙ sym (owner-line _ _ _ _ (λ e. c .before .before .before .before .if1 .left (ap (ofZ w64) e))))
     (c .before .before .write-line .ensures)
 
 pub write-owner-spec : {M : Type 1} → statement M

@@ -1,10 +1,11 @@
 //! Runs at the corners of the input.
 
-use reference::program::HOUR_BYTES;
 use reference::rights::RECORD;
+use reference::step::HOUR_BYTES;
 
-use super::run::{block, compare_run, right, year, Run};
+use super::run::{compare_run, right, year, Run};
 use crate::compare::{Case, Kind};
+use crate::drawn::block;
 
 /// A named run, and its last line or the letter of it.
 struct Corner {

@@ -1,11 +1,11 @@
 //! Drawn runs.
 
 use reference::draws::Draws;
-use reference::program::HOUR_BYTES;
+use reference::step::HOUR_BYTES;
 
-use super::run::{block, compare_run, right, year, Run};
+use super::run::{compare_run, right, year, Run};
 use crate::compare::Kind;
-use crate::drawn::{draw_rights, Shape};
+use crate::drawn::{block, draw_rights, Shape};
 
 /// How an hour of a run is drawn.
 struct Style {
@@ -100,6 +100,22 @@ fn draw_large_run(draws: &mut Draws) -> Run {
     }
 }
 
+pub fn draw_run(draws: &mut Draws) -> Run {
+    match draws.below(10) {
+        0 => draw_long_run(draws),
+        1 => draw_large_run(draws),
+        _ => draw_short_run(draws),
+    }
+}
+
+/// A year of few rights, poor or rich, to the year end or an hour past it.
+pub fn draw_year(draws: &mut Draws) -> Run {
+    let seed = draws.any();
+    let rights = 20 + draws.below(40);
+    let hours = draws.one_of(&[8_760, 8_760, 8_761]);
+    year(seed, rights, hours * HOUR_BYTES)
+}
+
 fn run_drawn(test: &'static str, base: u64) {
     let kind = Kind {
         test,
@@ -111,11 +127,7 @@ fn run_drawn(test: &'static str, base: u64) {
         ],
     };
     kind.run(|case| {
-        let run = match case.draws.below(10) {
-            0 => draw_long_run(&mut case.draws),
-            1 => draw_large_run(&mut case.draws),
-            _ => draw_short_run(&mut case.draws),
-        };
+        let run = draw_run(&mut case.draws);
         compare_run(case, &run);
     });
 }
@@ -132,7 +144,6 @@ fn other_runs() {
     run_drawn("program_runs::drawn::other_runs", 1_609_587_929_392_839_161);
 }
 
-/// Years of few rights, poor and rich, to the year end or an hour past it.
 #[test]
 fn years() {
     let kind = Kind {
@@ -146,11 +157,7 @@ fn years() {
         ],
     };
     kind.run(|case| {
-        let draws = &mut case.draws;
-        let seed = draws.any();
-        let rights = 20 + draws.below(40);
-        let hours = draws.one_of(&[8_760, 8_760, 8_761]);
-        let run = year(seed, rights, hours * HOUR_BYTES);
+        let run = draw_year(&mut case.draws);
         compare_run(case, &run);
     });
 }

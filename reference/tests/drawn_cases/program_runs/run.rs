@@ -6,11 +6,14 @@ use std::path::{Path, PathBuf};
 use std::process::{ChildStdin, Command, Stdio};
 
 use reference::make_year::{self, Year};
-use reference::program::{self, HOUR_BYTES};
+use reference::program;
 use reference::rights::{encode, Right, RECORD};
+use reference::sentence::Stopped;
+use reference::step::HOUR_BYTES;
+use reference::target::MOST_PRICES;
 
 use crate::compare::Case;
-use crate::drawn::rights_text;
+use crate::drawn::{block_text, names_fault, rights_text};
 
 /// What a run is given: the bytes of `ftr.bin`, unless it is missing, and those
 /// of the standard input.
@@ -34,14 +37,6 @@ pub fn year(seed: u64, rights: u64, bytes: usize) -> Run {
     Run { rights, hours }
 }
 
-/// One block; the prices not named are 0.
-pub fn block(collected: i64, prices: &[i32]) -> Vec<u8> {
-    let mut bytes = Vec::from(collected.to_le_bytes());
-    bytes.extend(prices.iter().flat_map(|price| price.to_le_bytes()));
-    bytes.resize(HOUR_BYTES, 0);
-    bytes
-}
-
 /// An obligation for all hours and days.
 pub fn right(owner: u64, source: u64, sink: u64, size: u64) -> [u8; RECORD] {
     encode(&Right {
@@ -57,14 +52,29 @@ pub fn right(owner: u64, source: u64, sink: u64, size: u64) -> [u8; RECORD] {
 }
 
 /// A folder of a run's own; a run that differs leaves it to be looked at.
-struct Folder(PathBuf);
+pub struct Folder(PathBuf);
 
 impl Folder {
-    fn new(test: &str, seed: u64) -> Folder {
-        let name = format!("{}-{seed}-{}", test.replace("::", "-"), std::process::id());
+    /// With `hours.bin`, and with `ftr.bin` unless it is missing.
+    pub fn new(case: &Case, run: &Run) -> Folder {
+        let test = case.test.replace("::", "-");
+        let name = format!("{test}-{}-{}", case.seed, std::process::id());
         let path = std::env::temp_dir().join(name);
         create_dir(&path).expect("a folder for the run");
+        write(path.join("hours.bin"), &run.hours).expect("hours.bin is written");
+        if let Some(rights) = &run.rights {
+            write(path.join("ftr.bin"), rights).expect("ftr.bin is written");
+        }
         Folder(path)
+    }
+
+    /// Runs a command here, with the hours from the file.
+    pub fn command(&self, program: &Path) -> Command {
+        let hours = File::open(self.0.join("hours.bin")).expect("the hours just written");
+        let mut command = Command::new(program);
+        command.current_dir(&self.0).stdin(hours);
+        command.stdout(Stdio::piped()).stderr(Stdio::piped());
+        command
     }
 }
 
@@ -79,7 +89,7 @@ impl Drop for Folder {
 }
 
 /// The path of the program: `CLEARING`, else where `rt check clearing` puts it.
-fn clearing() -> PathBuf {
+pub fn clearing() -> PathBuf {
     let beside = || Path::new(env!("CARGO_MANIFEST_DIR")).join("../target/bin/clearing");
     let path = std::env::var_os("CLEARING").map_or_else(beside, PathBuf::from);
     let found = path.canonicalize();
@@ -96,19 +106,19 @@ fn feed(mut pipe: ChildStdin, hours: &[u8]) {
     }
 }
 
+/// What a program prints: the statement, and what stands on standard error.
+#[derive(PartialEq, Eq)]
+pub struct Printed {
+    pub statement: String,
+    pub errors: String,
+}
+
 /// What the program prints in the folder, with the hours from a file or a pipe.
-fn printed(folder: &Path, hours: &[u8], piped: bool) -> String {
-    let file = File::open(folder.join("hours.bin")).expect("the hours just written");
-    let input = if piped {
-        Stdio::piped()
-    } else {
-        Stdio::from(file)
-    };
-    let mut command = Command::new(clearing());
-    command
-        .current_dir(folder)
-        .stdin(input)
-        .stdout(Stdio::piped());
+fn printed(folder: &Folder, hours: &[u8], piped: bool) -> Printed {
+    let mut command = folder.command(&clearing());
+    if piped {
+        command.stdin(Stdio::piped());
+    }
     let mut child = command.spawn().expect("the program runs");
     let pipe = child.stdin.take();
     let output = std::thread::scope(|scope| {
@@ -116,39 +126,40 @@ fn printed(folder: &Path, hours: &[u8], piped: bool) -> String {
         child.wait_with_output().expect("the program ends")
     });
     assert!(output.status.success(), "the program failed: {output:?}");
-    String::from_utf8(output.stdout).expect("the program prints text")
+    let text = |bytes| String::from_utf8(bytes).expect("the program prints text");
+    Printed {
+        statement: text(output.stdout),
+        errors: text(output.stderr),
+    }
 }
 
-/// What the second calculation prints.
-fn second_printed(folder: &Path, hours: &[u8]) -> String {
-    let rights = program::read_rights(&folder.join("ftr.bin"));
+/// What the second calculation prints, and what stopped it.
+pub fn second_printed(folder: &Folder, hours: &[u8]) -> (String, Stopped) {
+    let rights = program::read_rights(&folder.0.join("ftr.bin"));
     let mut output = Vec::new();
     let run = program::run(rights.as_deref(), &mut &hours[..], &mut output);
-    run.expect("bytes can be read and written");
-    String::from_utf8(output).expect("text is written")
+    let stopped = run.expect("bytes can be read and written");
+    let statement = String::from_utf8(output).expect("text is written");
+    (statement, stopped)
 }
 
-/// A signed number, low byte first.
-fn number(bytes: &[u8]) -> i64 {
-    let negative = bytes.last().is_some_and(|byte| *byte > 127);
-    let sign = if negative { -1 } else { 0 };
-    let high_first = bytes.iter().rev();
-    high_first.fold(sign, |number, byte| number << 8 | i64::from(*byte))
+/// The record number in a sentence on 7 or 8.
+fn record_in(sentence: &str) -> Option<u64> {
+    let (_, record) = sentence.split_once(", record ")?;
+    record.strip_suffix(".\n")?.parse().ok()
 }
 
-/// A block of the input in plain numbers.
-fn block_text(at: usize, block: &[u8]) -> String {
-    if block.len() < HOUR_BYTES {
-        return format!("hour {at}: broken, {} bytes: {block:?}\n", block.len());
-    }
-    let (collected, prices) = block.split_at(8);
-    let prices = prices.chunks(4).map(number).enumerate();
-    let prices: Vec<String> = prices
-        .filter(|(_, price)| *price != 0)
-        .map(|(node, price)| format!("{node}: {price}"))
-        .collect();
-    let (collected, prices) = (number(collected), prices.join(", "));
-    format!("hour {at}: collected {collected}, prices that are not 0: {prices}\n")
+/// The second calculation's sentence. In 7 it names the program's record if that
+/// has the fault: "which one is free".
+pub fn second_errors(run: &Run, stopped: Stopped, errors: &str) -> String {
+    let rights = run.rights.as_deref().unwrap_or_default();
+    let faulty = |record: &u64| names_fault(rights, MOST_PRICES, stopped.refusal, *record);
+    let record = record_in(errors).filter(faulty);
+    let named = Stopped {
+        record: record.unwrap_or(stopped.record),
+        ..stopped
+    };
+    named.sentence()
 }
 
 /// The lines at the start that are the same.
@@ -178,7 +189,8 @@ fn hours_text(hours: &[u8], program: &str, second: &str) -> String {
     let blocks = hours.chunks(HOUR_BYTES).enumerate().skip(first);
     let shown = blocks.take(last + 2 - first);
     let count = hours.len().div_ceil(HOUR_BYTES);
-    let text: String = shown.map(|(at, block)| block_text(at, block)).collect();
+    let text = shown.map(|(at, block)| format!("hour {at}: {}\n", block_text(block)));
+    let text: String = text.collect();
     format!("hours {first} to {} of {count}\n{text}", last + 1)
 }
 
@@ -191,28 +203,35 @@ fn refusal_of(text: &str) -> u64 {
     }
 }
 
-/// Runs both on the same input; gives what they print.
-pub fn compare_run(case: &mut Case, run: &Run) -> String {
-    let folder = Folder::new(case.test, case.seed);
-    write(folder.0.join("hours.bin"), &run.hours).expect("hours.bin is written");
-    if let Some(rights) = &run.rights {
-        write(folder.0.join("ftr.bin"), rights).expect("ftr.bin is written");
+/// The first differences, with the input.
+pub fn assert_same(run: &Run, program: &Printed, second: &Printed) {
+    if program == second {
+        return;
     }
+    let rights = run.rights.as_deref();
+    let rights = rights.map_or(String::from("no ftr.bin"), rights_text);
+    let hours = hours_text(&run.hours, &program.statement, &second.statement);
+    let lines = lines_text(&program.statement, &second.statement);
+    let (ours, theirs) = (&program.errors, &second.errors);
+    let errors = format!("standard error: {ours:?} / {theirs:?}");
+    panic!("the runs differ\n{rights}\n{hours}{lines}{errors}");
+}
+
+/// Runs both on the same input; gives the statement that they print.
+pub fn compare_run(case: &mut Case, run: &Run) -> String {
+    let folder = Folder::new(case, run);
     // A pipe is slow with a whole year.
     let piped = case.seed % 2 == 1 && run.hours.len() < 4_000_000;
-    let program = printed(&folder.0, &run.hours, piped);
-    let second = second_printed(&folder.0, &run.hours);
-    if program != second {
-        let rights = run.rights.as_deref();
-        let rights = rights.map_or(String::from("no ftr.bin"), rights_text);
-        let hours = hours_text(&run.hours, &program, &second);
-        let lines = lines_text(&program, &second);
-        panic!("the runs differ\n{rights}\n{hours}{lines}");
-    }
-    case.came("run", refusal_of(&second));
+    let program = printed(&folder, &run.hours, piped);
+    let (statement, stopped) = second_printed(&folder, &run.hours);
+    let errors = second_errors(run, stopped, &program.errors);
+    let second = Printed { statement, errors };
+    assert_same(run, &program, &second);
+    let statement = second.statement;
+    case.came("run", refusal_of(&statement));
     for (letter, event) in [("M ", "month that pays"), ("Y ", "year that pays")] {
-        let paid = second.lines().any(|line| line.starts_with(letter));
+        let paid = statement.lines().any(|line| line.starts_with(letter));
         case.came(event, u64::from(paid));
     }
-    second
+    statement
 }

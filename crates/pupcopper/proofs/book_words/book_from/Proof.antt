@@ -1,8 +1,11 @@
--- `pupcopper::book_words::book_from` meets its contract, field by field.
+-- `pupcopper::book_words::book_from` meets its contract, field by field; an amount of 64 bits with its sign has a small positive part.
 -- Assumes nothing.
+use Prim.Native.Nat.{ℕ, _^_, _<_}
 use native.Mathlib.Omega.{arith}
-use mathlib.Core.Path.{ap, _∙_}
+use mathlib.Core.Path.{_≡_, ap, _∙_}
+use lib.IntN.{ℤ, pos, negsuc}
 use mir.Syntax.{w64}
+use mir.Val.{SFits}
 use mir.ValLaws.{toZ-ofZ}
 use borrow.Author.Needs.{needs}
 use Rattle.numbers.specs.Signs.{positive}
@@ -47,22 +50,34 @@ shared-slice-copy-out-positive-part-2 c = omega (arith, sized (start-2 (c .befor
 positive-part-requires-2 : tie.Need-positive-part-requires-2
 positive-part-requires-2 c κs = search needs
 
+-- the positive part of a number of 64 bits with its sign
+small : (z : ℤ) {part : ℕ} → SFits w64 z → part ≡ positive z → part < 2 ^ 63
+small (pos n) fits is = omega (arith, fits .sfits)
+small (negsuc n) fits is = omega arith
+
 returns : tie.Need-returns
 unfolding bookFrom
 returns c =
     let s = start-2 (c .before .before .before .before .before .before .before) in
-    let month = toZ-ofZ w64 (surplusIn (words s) 0) (record { sfits = c .before .before .before .positive-part-arg .given }) in
-    let year = toZ-ofZ w64 (surplusIn (words s) 1) (record { sfits = c .before .positive-part-arg2 .given }) in
-    λ i.
-    record {
-      hours = bookFrom (words s) .hours;
-      months = bookFrom (words s) .months;
-      ended = bookFrom (words s) .ended;
-      monthshort = c .before .before .before .before .before .before .before .before .cells-from .ensures i;
-      yearshort = c .before .before .before .before .before .before .before .cells-from2 .ensures i;
-      monthsurplus = (c .before .before .positive-part .ensures ∙ ap positive month) i;
-      yearsurplus = (c .positive-part2 .ensures ∙ ap positive year) i;
-    }
+    let month-fits : SFits w64 (surplusIn (words s) 0) = record { sfits = c .before .before .before .positive-part-arg .given } in
+    let year-fits : SFits w64 (surplusIn (words s) 1) = record { sfits = c .before .positive-part-arg2 .given } in
+    let month = c .before .before .positive-part .ensures ∙ ap positive (toZ-ofZ w64 (surplusIn (words s) 0) month-fits) in
+    let year = c .positive-part2 .ensures ∙ ap positive (toZ-ofZ w64 (surplusIn (words s) 1) year-fits) in (
+      λ i.
+          record {
+            hours = bookFrom (words s) .hours;
+            months = bookFrom (words s) .months;
+            ended = bookFrom (words s) .ended;
+            monthshort = c .before .before .before .before .before .before .before .before .cells-from .ensures i;
+            yearshort = c .before .before .before .before .before .before .before .cells-from2 .ensures i;
+            monthsurplus = month i;
+            yearsurplus = year i;
+          },
+      record {
+        month = small (surplusIn (words s) 0) month-fits month;
+        year = small (surplusIn (words s) 1) year-fits year;
+      },
+    )
 
 pub book-from-spec : {M : Type 1} → statement M
 book-from-spec =

@@ -33,17 +33,17 @@ is-no-book-requires : tie.Need-is-no-book-requires
 is-no-book-requires c κs = search needs
 
 returns : tie.Need-returns
-returns c = wrong-count (words (c .before .before .before .before)) _ (sym (c .before .is-no-book .ensures) ∙ c .if1 .taken)
+returns c = wrong-count _ (words (c .before .before .before .before)) _ (sym (c .before .is-no-book .ensures) ∙ c .if1 .taken)
 
 returns-2 : tie.Need-returns-2
-returns-2 c = wrong-report _ _ (counted (c .before)) (report-wrong 3 _ (c .if2 .taken))
+returns-2 c = wrong-report _ _ _ (counted (c .before)) (report-wrong _ _ (c .if2 .taken))
 
 shared-slice-read-if3 : tie.Need-shared-slice-read-if3
 shared-slice-read-if3 c = omega (arith, sized (c .before .before) .counts)
 
 returns-3 : tie.Need-returns-3
 returns-3 c =
-    wrong-mark _ _ (counted (c .before .before .before)) (report-fits 3 _ (c .before .before .if2 .left)) (lt-ltb 1 _ (c .if3 .taken))
+    wrong-mark _ _ _ (counted (c .before .before .before)) (report-fits _ _ (c .before .before .if2 .left)) (lt-ltb 1 _ (c .if3 .taken))
 
 shared-slice-copy-out-if4 : tie.Need-shared-slice-copy-out-if4
 shared-slice-copy-out-if4 c = omega (arith, sized (c .before .before .before) .surpluses)
@@ -63,13 +63,13 @@ read-back c =
 returns-4 : tie.Need-returns-4
 returns-4 c =
     let past = c .before .before .before in
-    overdrawn _ _ (counted (past .before .before .before)) (report-fits 3 _ (past .before .before .if2 .left))
+    overdrawn _ _ _ (counted (past .before .before .before)) (report-fits _ _ (past .before .before .if2 .left))
     (le-ltb 1 _ (past .if3 .left)) (read-back (c .before) ∙ c .if4 .taken)
 
 returns-5 : tie.Need-returns-5
 returns-5 c =
     let past = c .before .before .before in
-    good-words _ _ (counted (past .before .before .before)) (report-fits 3 _ (past .before .before .if2 .left))
+    good-words _ _ _ (counted (past .before .before .before)) (report-fits _ _ (past .before .before .if2 .left))
     (le-ltb 1 _ (past .if3 .left)) (read-back (c .before) ∙ c .if4 .left)
 
 pub refusal-spec : {M : Type 1} → statement M

@@ -3,7 +3,7 @@
 use mathlib.Core.Path.{_≡_, refl, sym, _∙_}
 use lib.ListN.{length}
 use Rattle.pupcopper.specs.BookWords.{BookWords, wordsIn}
-use Rattle.pupcopper.specs.Calls.{wordsRefusal}
+use Rattle.pupcopper.specs.Calls.{settledWords, wordsRefusal}
 use Rattle.pupcopper.proofs.WordRows.{words-clear}
 use borrow.Author.Needs.{needs}
 use Rattle.pupcopper.proofs.book_words.take.Statement.{statement}
@@ -14,7 +14,7 @@ words c = wordsIn (c .args .counts .now) (c .args .shortfalls .now) (c .args .su
 
 -- the words are a book's
 clear : (c : tie.Else1)
-    → wordsRefusal (words (c .before .before .before .before)) (length (c .before .before .before .before .args .report .now)) ≡ 0
+    → wordsRefusal settledWords (words (c .before .before .before .before)) (length (c .before .before .before .before .args .report .now)) ≡ 0
 clear c = sym (c .before .refusal .ensures) ∙ c .if1 .left
 
 refusal-requires : tie.Need-refusal-requires
@@ -40,14 +40,14 @@ returns c =
     }
 
 book-from-requires : tie.Need-book-from-requires
-book-from-requires c κs = words-clear _ _ (clear c) .0
+book-from-requires c κs = words-clear settledWords _ _ (clear c) .0
 
 returns-2 : tie.Need-returns-2
 returns-2 c =
     record {
       number = sym (clear (c .before));
       refused = λ some. absurd (some refl);
-      given = λ _. c .book-from .ensures;
+      given = λ _. c .book-from .ensures .0;
       kept = λ _. refl;
     }
 

@@ -1,0 +1,32 @@
+-- `clearing::settle_emptied` meets its contract: an empty buffer has room for a step.
+-- Assumes nothing.
+use Prim.Native.Nat.{_+_}
+use native.Mathlib.Omega.{arith}
+use lib.ListN.{length}
+use Rattle.settlement_run.specs.Calls.{stepRoom}
+use mathlib.Core.Path.{_∙_}
+use borrow.Author.Tests.{le-ltb}
+use Rattle.settlement_run.proofs.Within.{step-within}
+use borrow.Author.Needs.{needs}
+use Rattle.clearing.proofs.settle_emptied.Statement.{statement}
+use Rattle.clearing.proofs.settle_emptied.Tie as tie
+
+write-out-requires : tie.Need-write-out-requires
+write-out-requires c κs = search needs
+
+step-requires : tie.Need-step-requires
+step-requires c κs = search needs
+
+same-length : tie.Need-same-length
+same-length c = search needs
+
+returns : tie.Need-returns
+returns c =
+    let called = c .before .before .before in
+    let start = called .before .before .before .before .before .before .before in (
+      called .step .ensures .full ∙ le-ltb (length (start .args .text .now)) (0 + stepRoom) (omega (arith, start .pre)),
+      step-within (called .step .ensures) (omega arith),
+    )
+
+pub settle-emptied-spec : {M : Type 1} → statement M
+settle-emptied-spec = tie.close (tie.spec write-out-requires step-requires same-length returns)

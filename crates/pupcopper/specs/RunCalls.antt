@@ -1,0 +1,67 @@
+-- What the calls of a run give to a host that keeps the book's words and the text: a step on the next block, the closing.
+-- Assumes nothing.
+use Prim.Native.Nat.{ℕ}
+use mathlib.Core.Path.{_≡_}
+use mathlib.Core.Bool.{false, cond}
+use mathlib.Core.List.{List, [], _∷_}
+use lib.ListN.{length}
+use Rattle.numbers.specs.Refusals.{answerBy}
+use Rattle.statement_text.specs.Buffer.{textAfter}
+use Rattle.statement_text.specs.Text.{lineRoom}
+use Rattle.settlement_run.specs.declared.Run.{Run}
+use Rattle.settlement_run.specs.Calls.{Steps, lastText, closed}
+use Rattle.pupcopper.specs.BookWords.{BookWords, wordsOf, bookFrom}
+use Rattle.pupcopper.specs.Calls.{isWrongReport, wordsRefusal}
+
+-- the run that a host's words stand for: its book, the refusal that stopped it or 0, and the end of its text
+abbrev pub runFrom : BookWords → ℕ → ℕ → Run
+runFrom words refusal end =
+    record {
+      full = false;
+      end = end;
+      refusal = refusal;
+      tag = 0;
+      number = 0;
+      faulty = 0;
+      book = bookFrom words;
+    }
+
+-- a step's report: 1 if there was too little room, the end of the text, the refused event's letter and number, the record number
+abbrev pub steppedWords : ℕ
+steppedWords = 5
+
+abbrev pub steppedReport : Run → List ℕ
+steppedReport run = cond (run .full) 1 0 ∷ run .end ∷ run .tag ∷ run .number ∷ run .faulty ∷ []
+
+-- the closing's report: 1 if there was too little room, the end of the text
+abbrev pub closedWords : ℕ
+closedWords = 2
+
+abbrev pub closedReport : Run → List ℕ
+closedReport run = cond (run .full) 1 0 ∷ run .end ∷ []
+
+-- a report, if it has its places
+abbrev pub reported : ℕ → List ℕ → List ℕ → List ℕ
+reported places before report = cond (isWrongReport places (length before)) before report
+
+-- what a step promises to a host, for any words, any bytes as rights and as block, any text, any end and any report. The run of the host's
+-- words goes on from a result: that run itself where the words are refused, else what the library's step gives. The report is that of the
+-- result, and where the words are not refused so are the number and the words of the book
+pub record HostSteps (file block : List ℕ) (words : BookWords) (before : List ℕ) (end : ℕ) (report : List ℕ) (given : ℕ)
+    (wordsAfter : BookWords) (after reportAfter : List ℕ) : Type 0 where
+  pub result : Run
+  pub refused : (wordsRefusal steppedWords words (length report) ≡ 0 → ⊥) → (result ≡ runFrom words 0 end) × (after ≡ before)
+  pub steps : wordsRefusal steppedWords words (length report) ≡ 0 → Steps file block (runFrom words 0 end) before result after
+  pub number : given
+      ≡ answerBy (wordsRefusal steppedWords words (length report)) (result .refusal) (wordsRefusal steppedWords words (length report))
+  pub reports : reportAfter ≡ reported steppedWords report (steppedReport result)
+  pub givesBook : wordsAfter ≡ answerBy (wordsRefusal steppedWords words (length report)) (wordsOf (result .book)) words
+
+-- the closing: the last line of the run that stands at the host's words, with the refusal that stopped it or 0
+abbrev pub closingRun : BookWords → ℕ → List ℕ → ℕ → ℕ → Run
+closingRun words refusal before end report =
+    answerBy (wordsRefusal closedWords words report) (closed (runFrom words refusal end) before) (runFrom words refusal end)
+
+abbrev pub closingText : BookWords → ℕ → List ℕ → ℕ → ℕ → List ℕ
+closingText words refusal before end report =
+    answerBy (wordsRefusal closedWords words report) (textAfter lineRoom (lastText (runFrom words refusal end)) before end) before

@@ -1,0 +1,13 @@
+pub mod Appending
+pub mod BookAfter
+pub mod EnoughBlocks
+pub mod Naming
+pub mod Parts
+pub mod PrintedClaimHolds
+pub mod PrintedCredits
+pub mod PrintedLines
+pub mod PrintedSums
+pub mod RunLedger
+pub mod Stepping
+pub mod WholeText
+pub mod Within

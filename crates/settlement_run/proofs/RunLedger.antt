@@ -1,0 +1,361 @@
+-- The calls that a run makes are a ledger from a fresh book, and what the run prints is the lines of its accepted calls.
+-- Assumes nothing.
+use Prim.Native.Nat.{ℕ, zero, suc, _+_}
+use mathlib.Core.Path.{_≡_, refl, sym, ap, ap₂, subst, _∙_}
+use mathlib.Core.Bool.{Bool, true, false, cond}
+use mathlib.Core.List.{List, [], _∷_, _++_, map, append-assoc, append-nil}
+use native.Mathlib.Decide.{ℕ-discrete}
+use native.Mathlib.Omega.{arith}
+use lib.ListN.{length, replicate}
+use lib.IntN.{pos}
+use Rattle.numbers.specs.Limits.{owners, nodes}
+use Rattle.numbers.specs.Lists.{total, listBelow}
+use Rattle.numbers.specs.Refusals.{answerBy}
+use Rattle.numbers.specs.Signs.{positive}
+use Rattle.numbers.proofs.Refusals.{answer-accepted, answer-refused}
+use Rattle.numbers.proofs.Counts.{total-suc}
+use Rattle.target.specs.Target.{target}
+use Rattle.settlement.specs.declared.Book.{Book}
+use Rattle.settlement.specs.Events.{Call, hourCall, monthEndCall, yearEndCall, eventOf, isDue, refusal, lines, bookAfter, Answered}
+use Rattle.settlement.specs.Ledger.{Entry, Asked, asked, bookAt, IsLedger, atHour, hourCount, sumOver, callPositive, positiveTarget, callAmount, collection}
+use Rattle.settlement.proofs.EveryList.{an-answer}
+use Rattle.settlement.proofs.EntryParts.{Nothing, Parts, over-next, refused-nothing, written-is, book-is, accepted-parts}
+use Rattle.settlement.proofs.ClaimHolds.{kept-all, book-at-start, book-at-entry}
+use Rattle.settlement.proofs.RunLaws.{over-none}
+use Rattle.hour_block.specs.Block.{amountIn, pricesIn, decodeRefusal}
+use Rattle.statement_text.specs.Text.{Line, eventLines}
+use Rattle.settlement_run.specs.Run.{Part, goesOn, stops, andThen, tagOf, numberOf, askedOf, eventPart, ifDue, hourPart, stepPart, opening, blockAt, runTo}
+use Rattle.settlement_run.specs.PrintedClaim.{collectedIn, targetsIn, numberIn, ledgerLines}
+
+-- ---- parts in a row
+
+-- a part behind another one that goes on
+abbrev pub behind : Part → Part → Part
+behind first then =
+    record {
+      calls = then .calls ++ first .calls;
+      printed = first .printed ++ then .printed;
+      refusal = then .refusal;
+      tag = then .tag;
+      number = then .number;
+      book = then .book;
+    }
+
+module _ (part : Part) (next : Book → Part) where
+  then-on : part .refusal ≡ 0 → andThen part next ≡ behind part (next (part .book))
+  unfolding andThen
+  then-on on = answer-accepted (part .refusal) (behind part (next (part .book))) part on
+
+  then-stopped : (part .refusal ≡ 0 → ⊥) → andThen part next ≡ part
+  unfolding andThen
+  then-stopped stopped = answer-refused (part .refusal) (behind part (next (part .book))) part stopped
+
+-- what comes behind two parts in a row comes behind the second
+behind-then : (first part : Part) (next : Book → Part) → behind first (andThen part next) ≡ andThen (behind first part) next
+behind-then first part next = by-refusal (ℕ-discrete (part .refusal) 0)
+  where
+    by-refusal : Dec (part .refusal ≡ 0) → behind first (andThen part next) ≡ andThen (behind first part) next
+    by-refusal (yes on) =
+        ap (behind first) (then-on part next on)
+        ∙ ap₂
+        (λ (calls : List Asked) (printed : List Line).
+        record {
+          calls = calls;
+          printed = printed;
+          refusal = next (part .book) .refusal;
+          tag = next (part .book) .tag;
+          number = next (part .book) .number;
+          book = next (part .book) .book;
+        })
+        (append-assoc (next (part .book) .calls) (part .calls) (first .calls))
+        (sym (append-assoc (first .printed) (part .printed) (next (part .book) .printed)))
+        ∙ sym (then-on (behind first part) next on)
+    by-refusal (no stopped) = ap (behind first) (then-stopped part next stopped) ∙ sym (then-stopped (behind first part) next stopped)
+
+-- ---- the ledger of a part that began with a fresh book
+
+-- after so many blocks, each an accepted hour unless the run has stopped
+pub record Made (file input : List ℕ) (blocks : ℕ) (part : Part) : Type 0 where
+  pub ledger : List Entry
+  pub answered : IsLedger ledger
+  pub made : map asked ledger ≡ part .calls
+  pub reached : bookAt ledger ≡ part .book
+  pub prints : part .printed ≡ ledgerLines ledger
+  pub collected : sumOver collection ledger ≡ collectedIn input (sumOver hourCount ledger)
+  pub targeted : (owner : ℕ) → sumOver (positiveTarget owner) ledger ≡ targetsIn file input owner (sumOver hourCount ledger)
+  pub counted : part .refusal ≡ 0 → sumOver hourCount ledger ≡ blocks
+
+-- an hour's call is that of its block
+pub record IsOf (file input : List ℕ) (call : Call) (block : ℕ) : Type 0 where
+  pub amount : callAmount call ≡ atHour call (positive (amountIn (blockAt input block)))
+  pub positives : (owner : ℕ)
+      → callPositive call block owner ≡ atHour call (positive (target file (pricesIn (blockAt input block)) block owner))
+
+-- one hour more in a sum over the hours, or none
+sum-at-hour : (call : Call) (f : ℕ → ℕ) (n : ℕ) → total (listBelow f (atHour call 1 + n)) ≡ atHour call (f n) + total (listBelow f n)
+sum-at-hour (hourCall file prices collected) f n =
+    let next : 1 + n ≡ suc n = omega arith in
+    ap (λ (m : ℕ). total (listBelow f m)) next ∙ omega (arith, total-suc f n)
+sum-at-hour monthEndCall f n =
+    let same : 0 + n ≡ n = omega arith in ap (λ (m : ℕ). total (listBelow f m)) same ∙ omega arith
+sum-at-hour yearEndCall f n =
+    let same : 0 + n ≡ n = omega arith in ap (λ (m : ℕ). total (listBelow f m)) same ∙ omega arith
+
+-- a sum that an entry adds nothing to, or an hour's number
+module _ (part : List Entry → Entry → ℕ) (f : ℕ → ℕ) (past : List Entry) (entry : Entry)
+    (so-far : sumOver part past ≡ total (listBelow f (sumOver hourCount past))) where
+  sum-refused : part past entry ≡ 0 → hourCount past entry ≡ 0
+      → sumOver part (entry ∷ past) ≡ total (listBelow f (sumOver hourCount (entry ∷ past)))
+  sum-refused none no-hour =
+      let same : sumOver hourCount past ≡ sumOver hourCount (entry ∷ past) = omega (arith, over-next hourCount entry past) in
+      let sums : sumOver part (entry ∷ past) ≡ sumOver part past = omega (arith, over-next part entry past) in
+      sums ∙ so-far ∙ ap (λ (m : ℕ). total (listBelow f m)) same
+
+  sum-accepted : part past entry ≡ atHour (entry .call) (f (sumOver hourCount past)) → hourCount past entry ≡ atHour (entry .call) 1
+      → sumOver part (entry ∷ past) ≡ total (listBelow f (sumOver hourCount (entry ∷ past)))
+  sum-accepted more hour =
+      let next : atHour (entry .call) 1 + sumOver hourCount past ≡ sumOver hourCount (entry ∷ past) =
+      omega (arith, over-next hourCount entry past) in
+      let sums : sumOver part (entry ∷ past) ≡ atHour (entry .call) (f (sumOver hourCount past)) + total (listBelow f (sumOver hourCount past)) =
+      omega (arith, over-next part entry past) in
+      sums ∙ sym (sum-at-hour (entry .call) f (sumOver hourCount past)) ∙ ap (λ (m : ℕ). total (listBelow f m)) next
+
+-- the numbers that the lines have are the book's
+number-is : (call : Call) (ledger : List Entry) → IsLedger ledger → numberOf call (bookAt ledger) ≡ numberIn call ledger
+number-is (hourCall file prices collected) ledger answered = kept-all ledger answered .hours
+number-is monthEndCall ledger answered = kept-all ledger answered .months
+number-is yearEndCall ledger answered = refl
+
+-- ---- an event
+
+module _ (file input : List ℕ) (blocks : ℕ) (run : Part) (before : Made file input blocks run) (on : run .refusal ≡ 0) where
+  module _ (call : Call) (of : IsOf file input call blocks) where
+    abbrev past : List Entry
+    past = before .ledger
+
+    abbrev book : Book
+    book = bookAt (before .ledger)
+
+    abbrev entry : Entry
+    entry =
+        record {
+          call = call;
+          lent = replicate owners (pos 0);
+          result = an-answer call (bookAt (before .ledger)) (replicate owners (pos 0)) .0;
+          written = an-answer call (bookAt (before .ledger)) (replicate owners (pos 0)) .1;
+        }
+
+    answer : Answered call book (replicate owners (pos 0)) (entry .result) (entry .written)
+    answer = an-answer call (bookAt (before .ledger)) (replicate owners (pos 0)) .2
+
+    of-next : IsOf file input call (sumOver hourCount past)
+    of-next = subst (IsOf file input call) (sym (before .counted on)) of
+
+    event-accepted : refusal call book owners ≡ 0 → Made file input (atHour call 1 + blocks) (behind run (eventPart call book))
+    unfolding eventPart ledgerLines
+    event-accepted accepted =
+        subst (λ (part : Part). Made file input (atHour call 1 + blocks) (behind run part)) (sym is) after
+      where
+        is : eventPart call book
+            ≡ goesOn (askedOf call ∷ []) (eventLines (tagOf call) (numberOf call book) (lines call book)) (bookAfter call book)
+        is = answer-accepted (refusal call book owners) _ _ accepted
+
+        right : entry .result .refusal ≡ 0
+        right = answer .number ∙ accepted
+
+        parts : Parts past entry
+        parts = accepted-parts past entry answer right
+
+        after : Made file input (atHour call 1 + blocks)
+            (behind run (goesOn (askedOf call ∷ []) (eventLines (tagOf call) (numberOf call book) (lines call book)) (bookAfter call book)))
+        after =
+            record {
+              ledger = entry ∷ past;
+              answered = (answer, before .answered);
+              made = ap (askedOf call ∷_) (before .made);
+              reached = book-at-entry entry past ∙ book-is past entry answer right;
+              prints =
+                  ap₂ (λ (a b : List Line). a ++ b) (before .prints)
+                  (ap₂ (eventLines (tagOf call)) (number-is call past (before .answered)) (sym (written-is past entry answer right))
+                  ∙ sym (answer-accepted (entry .result .refusal) _ [] right));
+              collected =
+                  sum-accepted collection (λ hour. positive (amountIn (blockAt input hour))) past entry (before .collected)
+                  (parts .collected ∙ of-next .amount) (parts .hour);
+              targeted =
+                  λ owner.
+                  sum-accepted (positiveTarget owner) (λ hour. positive (target file (pricesIn (blockAt input hour)) hour owner)) past entry
+                  (before .targeted owner) (parts .target owner ∙ of-next .positives owner) (parts .hour);
+              counted = λ _. omega (arith, before .counted on, over-next hourCount entry past, parts .hour);
+            }
+
+    event-refused : (refusal call book owners ≡ 0 → ⊥) → Made file input (atHour call 1 + blocks) (behind run (eventPart call book))
+    unfolding eventPart ledgerLines
+    event-refused refused =
+        subst (λ (part : Part). Made file input (atHour call 1 + blocks) (behind run part)) (sym is) after
+      where
+        is : eventPart call book ≡ stops (askedOf call ∷ []) (refusal call book owners) (tagOf call) (numberOf call book) book
+        is = answer-refused (refusal call book owners) _ _ refused
+
+        wrong : entry .result .refusal ≡ 0 → ⊥
+        wrong e = refused (sym (answer .number) ∙ e)
+
+        none : Nothing past entry
+        none = refused-nothing past entry wrong
+
+        after : Made file input (atHour call 1 + blocks)
+            (behind run (stops (askedOf call ∷ []) (refusal call book owners) (tagOf call) (numberOf call book) book))
+        after =
+            record {
+              ledger = entry ∷ past;
+              answered = (answer, before .answered);
+              made = ap (askedOf call ∷_) (before .made);
+              reached = book-at-entry entry past ∙ answer .givesBook ∙ answer-refused (refusal call book owners) _ _ refused;
+              prints =
+                  ap₂ (λ (a b : List Line). a ++ b) (before .prints) (sym (answer-refused (entry .result .refusal) _ [] wrong));
+              collected =
+                  sum-refused collection (λ hour. positive (amountIn (blockAt input hour))) past entry (before .collected) (none .collected)
+                  (none .hour);
+              targeted =
+                  λ owner.
+                  sum-refused (positiveTarget owner) (λ hour. positive (target file (pricesIn (blockAt input hour)) hour owner)) past entry
+                  (before .targeted owner) (none .target owner) (none .hour);
+              counted = λ e. absurd (refused e);
+            }
+
+    made-event : Made file input (atHour call 1 + blocks) (behind run (eventPart call (run .book)))
+    made-event =
+        subst (λ (at : Book). Made file input (atHour call 1 + blocks) (behind run (eventPart call at))) (before .reached)
+        (by-refusal (ℕ-discrete (refusal call book owners) 0))
+      where
+        by-refusal : Dec (refusal call book owners ≡ 0) → Made file input (atHour call 1 + blocks) (behind run (eventPart call book))
+        by-refusal (yes accepted) = event-accepted accepted
+        by-refusal (no refused) = event-refused refused
+
+  -- a part that makes no call
+  made-still : (now refusal tag number : ℕ) → (refusal ≡ 0 → now ≡ blocks)
+      → Made file input now (behind run (stops [] refusal tag number (run .book)))
+  made-still now refusal tag number same =
+      record {
+        ledger = before .ledger;
+        answered = before .answered;
+        made = before .made;
+        reached = before .reached;
+        prints = append-nil (run .printed) ∙ before .prints;
+        collected = before .collected;
+        targeted = before .targeted;
+        counted = λ e. before .counted on ∙ sym (same e);
+      }
+
+  -- a month end or a year end, if it is due
+  made-due : (call : Call) → IsOf file input call blocks → atHour call 1 ≡ 0
+      → Made file input blocks (behind run (ifDue call (run .book)))
+  unfolding ifDue
+  made-due call of no-hour = by-test (isDue (eventOf call) (run .book)) refl
+    where
+      same : atHour call 1 + blocks ≡ blocks
+      same = omega (arith, no-hour)
+
+      by-test : (test : Bool) → isDue (eventOf call) (run .book) ≡ test
+          → Made file input blocks (behind run (cond test (eventPart call (run .book)) (goesOn [] [] (run .book))))
+      by-test true e = subst (λ (n : ℕ). Made file input n (behind run (eventPart call (run .book)))) same (made-event call of)
+      by-test false e = made-still blocks 0 0 0 (λ _. refl)
+
+  -- the hour of a block
+  made-hour : Made file input (suc blocks) (behind run (hourPart file (blockAt input blocks) (run .book)))
+  unfolding hourPart
+  made-hour = by-refusal (ℕ-discrete number 0)
+    where
+      number : ℕ
+      number = decodeRefusal (length (blockAt input blocks)) nodes
+
+      call : Call
+      call = hourCall file (pricesIn (blockAt input blocks)) (amountIn (blockAt input blocks))
+
+      next : 1 + blocks ≡ suc blocks
+      next = omega arith
+
+      by-refusal : Dec (number ≡ 0)
+          → Made file input (suc blocks)
+          (behind run (answerBy number (eventPart call (run .book)) (stops [] number 72 (run .book .hours) (run .book))))
+      by-refusal (yes whole) =
+          subst (λ (part : Part). Made file input (suc blocks) (behind run part))
+          (sym (answer-accepted number (eventPart call (run .book)) (stops [] number 72 (run .book .hours) (run .book)) whole))
+          (subst (λ (n : ℕ). Made file input n (behind run (eventPart call (run .book)))) next
+          (made-event call (record { amount = refl; positives = λ owner. refl })))
+      by-refusal (no broken) =
+          subst (λ (part : Part). Made file input (suc blocks) (behind run part))
+          (sym (answer-refused number (eventPart call (run .book)) (stops [] number 72 (run .book .hours) (run .book)) broken))
+          (made-still (suc blocks) number 72 (run .book .hours) (λ e. absurd (broken e)))
+
+-- ---- the run
+
+-- one part after another
+made-then : (file input : List ℕ) (blocks now : ℕ) (part : Part) (next : Book → Part) → Made file input blocks part
+    → (part .refusal ≡ 0 → Made file input now (behind part (next (part .book)))) → Made file input now (andThen part next)
+made-then file input blocks now part next before after = by-refusal (ℕ-discrete (part .refusal) 0)
+  where
+    by-refusal : Dec (part .refusal ≡ 0) → Made file input now (andThen part next)
+    by-refusal (yes on) = subst (Made file input now) (sym (then-on part next on)) (after on)
+    by-refusal (no stopped) =
+        subst (Made file input now) (sym (then-stopped part next stopped))
+        (record {
+          ledger = before .ledger;
+          answered = before .answered;
+          made = before .made;
+          reached = before .reached;
+          prints = before .prints;
+          collected = before .collected;
+          targeted = before .targeted;
+          counted = λ e. absurd (stopped e);
+        })
+
+module _ (file input : List ℕ) where
+  made-step : (blocks : ℕ) (run : Part) → Made file input blocks run → run .refusal ≡ 0
+      → Made file input (suc blocks) (behind run (stepPart file (blockAt input blocks) (run .book)))
+  unfolding stepPart
+  made-step blocks run before on =
+      subst (Made file input (suc blocks))
+      (sym
+      (behind-then run (andThen hour (ifDue monthEndCall)) (ifDue yearEndCall)
+      ∙ ap (λ (part : Part). andThen part (ifDue yearEndCall)) (behind-then run hour (ifDue monthEndCall))))
+      (made-then file input (suc blocks) (suc blocks) (andThen (behind run hour) (ifDue monthEndCall)) (ifDue yearEndCall)
+      month
+      (λ e.
+      made-due file input (suc blocks) (andThen (behind run hour) (ifDue monthEndCall)) month e yearEndCall
+      (record { amount = refl; positives = λ owner. refl }) refl))
+    where
+      hour : Part
+      hour = hourPart file (blockAt input blocks) (run .book)
+
+      month : Made file input (suc blocks) (andThen (behind run hour) (ifDue monthEndCall))
+      month =
+          made-then file input (suc blocks) (suc blocks) (behind run hour) (ifDue monthEndCall) (made-hour file input blocks run before on)
+          (λ e.
+          made-due file input (suc blocks) (behind run hour) (made-hour file input blocks run before on) e monthEndCall
+          (record { amount = refl; positives = λ owner. refl }) refl)
+
+  pub made-run : (readable : Bool) (n : ℕ) → Made file input n (runTo readable file input n)
+  unfolding runTo opening ledgerLines total listBelow
+  made-run readable zero =
+      record {
+        ledger = [];
+        answered = tt;
+        made = made-none;
+        reached = book-at-start;
+        prints = refl;
+        collected = over-none collection ∙ sym (sum-of-none (λ hour. positive (amountIn (blockAt input hour))));
+        targeted =
+            λ owner.
+            over-none (positiveTarget owner)
+            ∙ sym (sum-of-none (λ hour. positive (target file (pricesIn (blockAt input hour)) hour owner)));
+        counted = λ _. over-none hourCount;
+      }
+    where
+      made-none : map asked [] ≡ []
+      made-none = refl
+
+      sum-of-none : (f : ℕ → ℕ) → total (listBelow f (sumOver hourCount [])) ≡ 0
+      sum-of-none f = ap (λ (n : ℕ). total (listBelow f n)) (over-none hourCount)
+  made-run readable (suc n) =
+      made-then file input n (suc n) (runTo readable file input n) (stepPart file (blockAt input n)) (made-run readable n)
+      (made-step n (runTo readable file input n) (made-run readable n))
