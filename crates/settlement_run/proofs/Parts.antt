@@ -11,22 +11,13 @@ use lib.ListN.{length}
 use Rattle.numbers.proofs.Refusals.{answer-accepted, answer-refused}
 use Rattle.settlement.specs.declared.Book.{Book}
 use Rattle.settlement_run.specs.declared.Run.{Run}
-use Rattle.settlement_run.specs.Run.{Part, andThen, stepPart, opening, blockAt, runTo}
+use Rattle.settlement_run.specs.Run.{Part, behind, andThen, stepPart, opening, blockAt, runTo}
 use Rattle.settlement_run.specs.Calls.{standing, StandsAt}
 
 -- ---- one part after another
 
 module _ (part : Part) (next : Book → Part) where
-  pub then-goes : part .refusal ≡ 0
-      → andThen part next
-      ≡ record {
-        calls = next (part .book) .calls ++ part .calls;
-        printed = part .printed ++ next (part .book) .printed;
-        refusal = next (part .book) .refusal;
-        tag = next (part .book) .tag;
-        number = next (part .book) .number;
-        book = next (part .book) .book;
-      }
+  pub then-goes : part .refusal ≡ 0 → andThen part next ≡ behind part (next (part .book))
   unfolding andThen
   then-goes goes = answer-accepted (part .refusal) _ part goes
 

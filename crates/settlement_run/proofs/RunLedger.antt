@@ -24,31 +24,11 @@ use Rattle.settlement.proofs.ClaimHolds.{kept-all, book-at-start, book-at-entry
 use Rattle.settlement.proofs.RunLaws.{over-none}
 use Rattle.hour_block.specs.Block.{amountIn, pricesIn, decodeRefusal}
 use Rattle.statement_text.specs.Text.{Line, eventLines}
-use Rattle.settlement_run.specs.Run.{Part, goesOn, stops, andThen, tagOf, numberOf, askedOf, eventPart, ifDue, hourPart, stepPart, opening, blockAt, runTo}
+use Rattle.settlement_run.specs.Run.{Part, goesOn, stops, behind, andThen, tagOf, numberOf, askedOf, eventPart, ifDue, hourPart, stepPart, opening, blockAt, runTo}
 use Rattle.settlement_run.specs.PrintedClaim.{collectedIn, targetsIn, numberIn, ledgerLines}
+use Rattle.settlement_run.proofs.Parts.{then-goes, then-stops}
 
 -- ---- parts in a row
-
--- a part behind another one that goes on
-abbrev pub behind : Part → Part → Part
-behind first then =
-    record {
-      calls = then .calls ++ first .calls;
-      printed = first .printed ++ then .printed;
-      refusal = then .refusal;
-      tag = then .tag;
-      number = then .number;
-      book = then .book;
-    }
-
-module _ (part : Part) (next : Book → Part) where
-  then-on : part .refusal ≡ 0 → andThen part next ≡ behind part (next (part .book))
-  unfolding andThen
-  then-on on = answer-accepted (part .refusal) (behind part (next (part .book))) part on
-
-  then-stopped : (part .refusal ≡ 0 → ⊥) → andThen part next ≡ part
-  unfolding andThen
-  then-stopped stopped = answer-refused (part .refusal) (behind part (next (part .book))) part stopped
 
 -- what comes behind two parts in a row comes behind the second
 behind-then : (first part : Part) (next : Book → Part) → behind first (andThen part next) ≡ andThen (behind first part) next
@@ -56,7 +36,7 @@ behind-then first part next = by-refusal (ℕ-discrete (part .refusal) 0)
   where
     by-refusal : Dec (part .refusal ≡ 0) → behind first (andThen part next) ≡ andThen (behind first part) next
     by-refusal (yes on) =
-        ap (behind first) (then-on part next on)
+        ap (behind first) (then-goes part next on)
         ∙ ap₂
         (λ (calls : List Asked) (printed : List Line).
         record {
@@ -69,8 +49,8 @@ behind-then first part next = by-refusal (ℕ-discrete (part .refusal) 0)
         })
         (append-assoc (next (part .book) .calls) (part .calls) (first .calls))
         (sym (append-assoc (first .printed) (part .printed) (next (part .book) .printed)))
-        ∙ sym (then-on (behind first part) next on)
-    by-refusal (no stopped) = ap (behind first) (then-stopped part next stopped) ∙ sym (then-stopped (behind first part) next stopped)
+        ∙ sym (then-goes (behind first part) next on)
+    by-refusal (no stopped) = ap (behind first) (then-stops part next stopped) ∙ sym (then-stops (behind first part) next stopped)
 
 -- ---- the ledger of a part that began with a fresh book
 
@@ -295,9 +275,9 @@ made-then : (file input : List ℕ) (blocks now : ℕ) (part : Part) (next : Boo
 made-then file input blocks now part next before after = by-refusal (ℕ-discrete (part .refusal) 0)
   where
     by-refusal : Dec (part .refusal ≡ 0) → Made file input now (andThen part next)
-    by-refusal (yes on) = subst (Made file input now) (sym (then-on part next on)) (after on)
+    by-refusal (yes on) = subst (Made file input now) (sym (then-goes part next on)) (after on)
     by-refusal (no stopped) =
-        subst (Made file input now) (sym (then-stopped part next stopped))
+        subst (Made file input now) (sym (then-stops part next stopped))
         (record {
           ledger = before .ledger;
           answered = before .answered;

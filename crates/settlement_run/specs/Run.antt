@@ -39,19 +39,21 @@ abbrev pub stops : List Asked → ℕ → ℕ → ℕ → Book → Part
 stops calls refusal tag number book =
     record { calls = calls; printed = []; refusal = refusal; tag = tag; number = number; book = book }
 
--- one part after another, "event by event", unless the first one stops the run
+-- "event by event": one part behind another
+abbrev pub behind : Part → Part → Part
+behind first then =
+    record {
+      calls = then .calls ++ first .calls;
+      printed = first .printed ++ then .printed;
+      refusal = then .refusal;
+      tag = then .tag;
+      number = then .number;
+      book = then .book;
+    }
+
+-- a part and what comes next on its book, unless the part stops the run
 unfoldable pub andThen : Part → (Book → Part) → Part
-andThen part next =
-    answerBy (part .refusal)
-    (record {
-      calls = next (part .book) .calls ++ part .calls;
-      printed = part .printed ++ next (part .book) .printed;
-      refusal = next (part .book) .refusal;
-      tag = next (part .book) .tag;
-      number = next (part .book) .number;
-      book = next (part .book) .book;
-    })
-    part
+andThen part next = answerBy (part .refusal) (behind part (next (part .book))) part
 
 -- ---- an event
 
