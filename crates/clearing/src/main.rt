@@ -41,7 +41,7 @@ fn is_at_end(fd: i32) -> bool {
     libc::read(fd, &mut probe) == 0
 }
 
-// Settles block after block. No run goes on past the year's hours and one more (theorem enough-blocks), so that many are read at most.
+// Settles block after block, at most one more than the year has hours: over that many every run has stopped (theorem enough-blocks).
 fn settle_year(run: Run, rights: &[u8], text: &mut [u8]) -> Standing
     requires { ⌜ (stepRoom ≤ length (now text)) × (run .end ≤ length (now text)) ⌝ }
     ensures { λ r. ⌜ r .run .end ≤ length (now (text .exit)) ⌝ }
@@ -109,7 +109,7 @@ fn settle_emptied(mut run: Run, rights: &[u8], block: &[u8], text: &mut [u8]) ->
 
 // The rest of the statement; then on standard error the sentence on a refusal, or that the statement is not whole.
 fn finish(standing: Standing, text: &mut [u8])
-    requires { ⌜ standing .run .end ≤ length (now text) ⌝ }
+    requires { ⌜ (stepRoom ≤ length (now text)) × (standing .run .end ≤ length (now text)) ⌝ }
 {
     let run = standing.run;
     if !print_last(standing, text) {
@@ -125,18 +125,27 @@ fn finish(standing: Standing, text: &mut [u8])
 
 // The text that is left and the last line; false if they, or text before them, could not be written.
 fn print_last(standing: Standing, text: &mut [u8]) -> bool
-    requires { ⌜ standing .run .end ≤ length (now text) ⌝ }
+    requires { ⌜ (stepRoom ≤ length (now text)) × (standing .run .end ≤ length (now text)) ⌝ }
 {
     if !standing.whole {
         return false;
     }
-    let mut run = standing.run;
+    let run = standing.run;
     if !write_out(STDOUT_FILENO, text, run.end) {
         return false;
     }
-    run.end = 0;
-    let closed = settlement_run::closing(run, text);
+    let closed = close_emptied(run, text);
     write_out(STDOUT_FILENO, text, closed.end)
+}
+
+// The last line in an empty buffer, which has room for it.
+fn close_emptied(mut run: Run, text: &mut [u8]) -> Run
+    requires { ⌜ stepRoom ≤ length (now text) ⌝ }
+    ensures { λ r. ⌜ r .full ≡ false ⌝ }
+    ensures { λ r. ⌜ r .end ≤ length (now (text .exit)) ⌝ }
+{
+    run.end = 0;
+    settlement_run::closing(run, text)
 }
 
 // Writes the start of the buffer, all of it or false.
