@@ -164,7 +164,8 @@ impl Book {
         }
     }
 
-    /// Refusals 1 to 8 of an hour, and the record number in 7 and 8.
+    /// Refusals 1 to 8 of an hour, and the record number in 7 and 8: "Hour and
+    /// target calls pass it on and state the same."
     fn hour_input_refusal(&self, input: &HourInput, lines: &[i64]) -> (u64, u64) {
         let all = records(input.rights);
         let bad = first_bad(&all);
@@ -413,6 +414,26 @@ mod tests {
         let most = hour(at(0, 0), 0, 4_000_000_000_000);
         assert_eq!(most.book.month_surplus, 4_000_000_000_000);
         assert_eq!(hour(at(0, 0), 500_001, -1).refusal, 5);
+    }
+
+    #[test]
+    fn the_lowest_record_with_the_fault() {
+        let result = |records: &[[u8; 16]], collected| {
+            let input = HourInput {
+                rights: &records.concat(),
+                prices: &[0, 1],
+                collected,
+            };
+            let result = at(0, 0).hour(input, &mut [0; 64]);
+            (result.refusal, result.record)
+        };
+        let bad = [0; 16];
+        let mut unpriced = RIGHT;
+        unpriced[4] = 2;
+        assert_eq!(result(&[unpriced, RIGHT, bad, bad], 1), (7, 2));
+        assert_eq!(result(&[RIGHT, unpriced, unpriced], 1), (8, 1));
+        assert_eq!(result(&[RIGHT, unpriced, bad], -1), (6, 0));
+        assert_eq!(result(&[RIGHT, RIGHT], 1), (0, 0));
     }
 
     #[test]

@@ -101,12 +101,14 @@ pub fn records(file: &[u8]) -> Vec<Right> {
     file.chunks_exact(RECORD).map(decode).collect()
 }
 
-/// The lowest record number with a field outside its values.
+/// The record number of 7, "a field outside its values": "the lowest one with
+/// that fault, all earlier records being free of it".
 pub fn first_bad(rights: &[Right]) -> Option<u64> {
     rights.iter().position(is_bad).map(|at| at as u64)
 }
 
-/// The lowest record number with an unpriced node.
+/// The record number of 8, "a node at or past the number of prices": also "the
+/// lowest one with that fault".
 pub fn first_unpriced(rights: &[Right], prices: usize) -> Option<u64> {
     let found = rights.iter().position(|right| is_unpriced(right, prices));
     found.map(|at| at as u64)
@@ -239,6 +241,30 @@ mod tests {
             ..good
         }));
         assert!(is_bad(&Right { last: 366, ..good }));
+    }
+
+    /// With 1,023 prices, which is one too few for the sink of `GOOD`.
+    #[test]
+    fn the_first_record_with_each_fault() {
+        let first = |rights: &[Right]| (first_bad(rights), first_unpriced(rights, 1_023));
+        let unpriced = decode(&GOOD);
+        let good = Right {
+            sink: 1_022,
+            ..unpriced
+        };
+        let bad = Right { kind: 2, ..good };
+        let both = Right {
+            source: 1_024,
+            ..good
+        };
+        assert_eq!(first(&[]), (None, None));
+        assert_eq!(first(&[good, good]), (None, None));
+        assert_eq!(first(&[unpriced, bad]), (Some(1), Some(0)));
+        assert_eq!(first(&[bad, unpriced]), (Some(0), Some(1)));
+        assert_eq!(first(&[good, bad, bad]), (Some(1), None));
+        assert_eq!(first(&[good, unpriced, unpriced]), (None, Some(1)));
+        assert_eq!(first(&[good, bad, both, unpriced]), (Some(1), Some(2)));
+        assert_eq!(first(&[good, unpriced, both, bad]), (Some(2), Some(1)));
     }
 
     #[test]

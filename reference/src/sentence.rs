@@ -8,8 +8,8 @@ pub const MONTH_END: u8 = b'M';
 pub const YEAR_END: u8 = b'Y';
 
 /// What stopped a run: the refused event, by its letter and number, the refusal
-/// and the record number of 7 and 8. Any other letter stands for the rights
-/// file. All 0 where nothing is refused.
+/// and the record number of 7 and 8, "the lowest one with that fault". Any other
+/// letter stands for the rights file. All 0 where nothing is refused.
 #[derive(Clone, Copy, Debug, Default, PartialEq, Eq)]
 pub struct Stopped {
     pub letter: u8,

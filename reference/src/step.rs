@@ -33,7 +33,8 @@ fn decode_hour(bytes: &[u8]) -> (i64, Vec<i32>) {
 
 impl Step {
     /// An accepted event prints "for each non-zero line, an H, M or Y, the hour
-    /// or month number (0 for the year), owner, cents"; a refused one "stops".
+    /// or month number (0 for the year), owner, cents"; a refused one "stops",
+    /// and an hour's record number, "the lowest one with that fault", is kept.
     fn take(&mut self, letter: u8, number: u64, result: &EventResult, lines: &[i64]) {
         if result.refusal != ACCEPTED {
             self.stop(letter, number, result.refusal, result.record);
@@ -146,13 +147,14 @@ mod tests {
     #[test]
     fn a_refused_hour_prints_nothing() {
         let (mut book, block) = last_hour();
-        let refused = step(book, &[0; 16], &block);
+        let faulty = [RIGHT, [0; 16], RIGHT, [0; 16]].concat();
+        let refused = step(book, &faulty, &block);
         assert_eq!((refused.text.as_str(), refused.book), ("", book));
         let stopped = Stopped {
             letter: b'H',
             number: 8_759,
             refusal: 7,
-            record: 0,
+            record: 1,
         };
         assert_eq!(refused.stopped, stopped);
         // A block of wrong length is no hour, so its book is not looked at.

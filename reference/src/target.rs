@@ -80,7 +80,8 @@ pub fn owner_targets(rights: &[Right], prices: &[i32], hour: u64) -> [i64; OWNER
     targets
 }
 
-/// The refusal of a target call, and the record number in 7 and 8.
+/// The refusal of a target call, and the record number in 7 and 8: "Hour and
+/// target calls pass it on and state the same."
 fn target_refusal(rights: &[u8], prices: &[i32], hour: u64, lines: &[i64]) -> TargetResult {
     let all = records(rights);
     let bad = first_bad(&all);
@@ -96,8 +97,9 @@ fn target_refusal(rights: &[u8], prices: &[i32], hour: u64, lines: &[i64]) -> Ta
     TargetResult { refusal, record }
 }
 
-/// "In 7 and 8 the record number is that of some record with the fault": here
-/// the lowest one.
+/// "In 7 and 8 the record number becomes the lowest one with that fault", where
+/// `bad` and `unpriced` are those lowest ones; "the record number is 0 except in
+/// 7 and 8".
 pub fn faulty_record(refusal: u64, bad: Option<u64>, unpriced: Option<u64>) -> u64 {
     match refusal {
         BAD_RIGHT => bad.unwrap_or(0),
@@ -135,6 +137,35 @@ mod tests {
         assert_eq!(round(i64::MIN), -922_337_203_685_477_581);
         assert_eq!(round(0), 0);
         assert_eq!(round(-4), 0);
+    }
+
+    /// Between nodes 0 and 1.
+    const RIGHT: [u8; 16] = [5, 0, 0, 0, 1, 0, 0, 2, 10, 0, 0, 0, 1, 0, 109, 1];
+
+    /// A target call with two prices over these records.
+    fn result(records: &[[u8; 16]], price: i32, hour: u64) -> (u64, u64) {
+        let result = targets(&records.concat(), &[0, price], hour, &mut [0; 64]);
+        (result.refusal, result.record)
+    }
+
+    #[test]
+    fn the_lowest_record_with_the_fault() {
+        let bad = [0; 16];
+        let mut unpriced = RIGHT;
+        unpriced[4] = 2;
+        assert_eq!(result(&[RIGHT, bad, RIGHT, bad], 1, 0), (7, 1));
+        assert_eq!(result(&[unpriced, unpriced, bad], 1, 0), (7, 2));
+        assert_eq!(result(&[RIGHT, bad, unpriced], 1, 0), (7, 1));
+        assert_eq!(result(&[RIGHT, RIGHT, unpriced, unpriced], 1, 0), (8, 2));
+    }
+
+    #[test]
+    fn no_record_but_in_7_and_8() {
+        assert_eq!(result(&[RIGHT, RIGHT], 1, 0), (0, 0));
+        let faulty = [RIGHT, [0; 16]];
+        assert_eq!(result(&faulty, 500_000, 8_759), (7, 1));
+        assert_eq!(result(&faulty, 500_001, 8_759), (5, 0));
+        assert_eq!(result(&faulty, 500_000, 8_760), (3, 0));
     }
 
     #[test]

@@ -143,7 +143,8 @@ impl BookWords<'_> {
     }
 
     /// An event on the book that the words stand for. "A refused call writes
-    /// nothing but its report."
+    /// nothing but its report." In 7 and 8 that has the paper's record number,
+    /// "the lowest one with that fault".
     pub fn settle(&mut self, event: Event, lines: &mut [i64], report: &mut [i64]) -> u64 {
         // "A report, or a book, of another number of words than named below is
         // refused with 4 before all else."
@@ -163,8 +164,9 @@ impl BookWords<'_> {
     }
 
     /// A step: "Settles the next hour, and after it the month end and the year
-    /// end that are due". A refusal's report "has the end that was given and else
-    /// zeros".
+    /// end that are due". Before the hour, a refusal's report "has the end that
+    /// was given and else zeros"; in 7 the hour's record number, "the lowest one
+    /// with that fault", stands in it.
     pub fn step(
         &mut self,
         rights: &[u8],
@@ -310,7 +312,8 @@ pub fn next(file: &[u8], next: u64, report: &mut [u64]) -> u64 {
     })
 }
 
-/// "Writes all 64 targets of an hour number."
+/// "Writes all 64 targets of an hour number." The report has the paper's record
+/// number, in 7 and 8 "the lowest one with that fault".
 pub fn targets(
     file: &[u8],
     prices: &[i32],
@@ -395,6 +398,45 @@ mod tests {
         assert_eq!(stepped(1, 12_483, 3), (1, [0, 3, 72, 9, 0]));
         let most = u64::MAX;
         assert_eq!(stepped(0, 20_000, most), (0, [1, most, 0, 0, 0]));
+    }
+
+    /// The refusal and the record number of an hour, a target call and a step over
+    /// these records; the first two have two prices.
+    fn record_numbers(records: &[[u8; 16]]) -> [(u64, u64); 3] {
+        let rights = &records.concat();
+        let mut words = BookWords {
+            counts: &mut [9, 0, 0],
+            shortfalls: &mut [0; SHORTFALLS],
+            surpluses: &mut [5, 0],
+        };
+        let mut stepped = [9; STEPPED];
+        let bytes = &mut [0; STEP_ROOM];
+        let text = LentText { bytes, end: 0 };
+        let step = words.step(rights, &[0; 4_104], text, &mut stepped);
+        let mut outcome = [9; OUTCOME];
+        let target = targets(rights, &[0; 2], 9, &mut [0; 64], &mut outcome);
+        let mut settled = [9; SETTLED];
+        let event = Event::Hour(HourInput {
+            rights,
+            prices: &[0; 2],
+            collected: 1,
+        });
+        let hour = words.settle(event, &mut [0; 64], &mut settled);
+        let in_hour = settled[0].unsigned_abs();
+        [(hour, in_hour), (target, outcome[0]), (step, stepped[4])]
+    }
+
+    #[test]
+    fn reports_have_the_lowest_record_with_the_fault() {
+        let good = [5, 0, 0, 0, 1, 0, 0, 2, 10, 0, 0, 0, 1, 0, 109, 1];
+        let mut unpriced = good;
+        unpriced[4] = 2;
+        let bad = [0; 16];
+        assert_eq!(record_numbers(&[good, unpriced, bad, bad]), [(7, 2); 3]);
+        let eight = record_numbers(&[good, unpriced, good, unpriced]);
+        // A step has all 1,024 prices.
+        assert_eq!(eight, [(8, 1), (8, 1), (0, 0)]);
+        assert_eq!(record_numbers(&[good, good]), [(0, 0); 3]);
     }
 
     fn behind_two(bytes: &mut [u8]) -> LentText<'_> {

@@ -1,14 +1,14 @@
--- Two sentences of the paper on the rights file, each shown of the rules themselves on a file that is written out.
+-- Three sentences of the papers on the rights file, each shown of the rules themselves on a file that is written out.
 -- Assumes nothing.
 use Prim.Native.Nat.{ℕ}
 use mathlib.Core.Path.{_≡_, refl}
 use mathlib.Core.List.{List, [], _∷_, _++_}
 use lib.IntN.{ℤ, pos}
-use Rattle.numbers.specs.Lists.{anyBelow, sumBelow}
+use Rattle.numbers.specs.Lists.{anyBelow, lowestBelow, sumBelow}
 use Rattle.numbers.specs.Refusals.{firstRefusal}
 use Rattle.calendar.specs.Year.{endedBy, monthOf, isAmong, isWorking, isPeak, calendarRefusal, operatingHour}
 use Rattle.rights.specs.Layout.{recordCount}
-use Rattle.rights.specs.Faults.{faultAt, anyFault, faultRows, fileRefusal}
+use Rattle.rights.specs.Faults.{faultAt, anyFault, faultRows, fileRefusal, faultyRecord}
 use Rattle.target.specs.Rounding.{roundTenths}
 use Rattle.target.specs.Target.{worth, worthTo, tenths, target}
 
@@ -35,3 +35,30 @@ pub equal-records : (fileRefusal 2 (oneRight ++ oneRight) ≡ 0)
     × ((target oneRight twoPrices 0 0 ≡ pos 10_000) × (target (oneRight ++ oneRight) twoPrices 0 0 ≡ pos 20_000))
 unfolding oneRight twoPrices fileRefusal faultRows anyFault anyBelow faultAt firstRefusal target tenths sumBelow worthTo worth roundTenths operatingHour calendarRefusal monthOf endedBy isPeak isWorking isAmong
 equal-records = (refl, (refl, refl))
+
+-- the same right with sink 5, a node that two prices have not
+unfoldable pub unpricedRight : List ℕ
+unpricedRight =
+    0 ∷ 0 ∷ 0 ∷ 0 ∷ 5 ∷ 0
+    ∷ 0 ∷ 2
+    ∷ 100 ∷ 0 ∷ 0 ∷ 0
+    ∷ 1 ∷ 0 ∷ 109 ∷ 1
+    ∷ []
+
+-- the same right with size 0, which is bad
+unfoldable pub badRight : List ℕ
+badRight =
+    0 ∷ 0 ∷ 0 ∷ 0 ∷ 1 ∷ 0
+    ∷ 0 ∷ 2
+    ∷ 0 ∷ 0 ∷ 0 ∷ 0
+    ∷ 1 ∷ 0 ∷ 109 ∷ 1
+    ∷ []
+
+-- "the lowest one with that fault" (Wish 3): 8 names record 1; with two bad records behind it, 7 names record 2, the first bad one, and
+-- not record 1, the first with any fault
+pub first-faulty : (fileRefusal 2 (oneRight ++ unpricedRight) ≡ 8)
+    × ((faultyRecord 2 (oneRight ++ unpricedRight) 8 ≡ 1)
+    × ((fileRefusal 2 (oneRight ++ unpricedRight ++ badRight ++ badRight) ≡ 7)
+    × (faultyRecord 2 (oneRight ++ unpricedRight ++ badRight ++ badRight) 7 ≡ 2)))
+unfolding oneRight unpricedRight badRight fileRefusal faultRows anyFault anyBelow faultAt firstRefusal faultyRecord lowestBelow
+first-faulty = (refl, (refl, (refl, refl)))

@@ -26,11 +26,16 @@ unfoldable pub anyBelow : (ℕ → Bool) → ℕ → Bool
 anyBelow test zero = false
 anyBelow test (suc n) = anyBelow test n || test n
 
--- r is the first number below n that passes the test, or n if none does
-pub record IsFirst (test : ℕ → Bool) (n r : ℕ) : Type 0 where
-  pub within : r ≤ n
+-- the lowest number below n that passes the test, or n if none does
+unfoldable pub lowestBelow : (ℕ → Bool) → ℕ → ℕ
+lowestBelow test zero = zero
+lowestBelow test (suc n) = cond (anyBelow test n) (lowestBelow test n) (cond (test n) n (suc n))
+
+-- r is below n and passes the test, and no number before it does
+pub record IsLowest (test : ℕ → Bool) (n r : ℕ) : Type 0 where
+  pub inside : r < n
+  pub here : test r ≡ true
   pub before : anyBelow test r ≡ false
-  pub here : r < n → test r ≡ true
 
 -- the list of f 0, f 1, .. up to f (n - 1)
 unfoldable pub listBelow : {A : Type 0} → (ℕ → A) → ℕ → List A

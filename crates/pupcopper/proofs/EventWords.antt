@@ -12,10 +12,11 @@ use Rattle.numbers.specs.Refusals.{answerBy}
 use Rattle.numbers.proofs.Refusals.{answer-accepted, answer-refused}
 use Rattle.settlement.specs.declared.Book.{Book}
 use Rattle.settlement.specs.declared.Settled.{Settled}
-use Rattle.settlement.specs.Events.{Call, fund, demand, bookAfter, lines, refusal, namesRecord, Answered}
-use Rattle.settlement.proofs.Amounts.{small-amounts, records, named-within, names-none}
+use Rattle.settlement.specs.Events.{Call, fund, demand, bookAfter, lines, refusal, recordOf, Answered}
+use Rattle.settlement.proofs.Amounts.{small-amounts, records, record-within}
+use Rattle.settlement.proofs.Refusing.{record-none, gives-number, gives-record, gives-fund, gives-demand, gives-book}
 use Rattle.pupcopper.specs.BookWords.{BookWords, wordsOf, bookFrom}
-use Rattle.pupcopper.specs.Calls.{isWrongReport, settledReport, settledWords, wordsRefusal, eventRefusal, recordIn, Settles}
+use Rattle.pupcopper.specs.Calls.{isWrongReport, settledReport, settledWords, wordsRefusal, eventRefusal, Settles}
 use Rattle.pupcopper.specs.InnerContracts.{SurplusesFit, ResultFits}
 use Rattle.pupcopper.proofs.WordRows.{words-clear, words-most}
 
@@ -28,13 +29,6 @@ module _ (call : Call) (words : BookWords) (report lent : List ℤ) where
 
   -- ---- refused by its words
 
-  -- a report that is written, if it has its places
-  zeros : (wrong : Bool) (after : List ℤ) (f d : ℕ) → f ≡ 0 → d ≡ 0 → after ≡ cond wrong report (settledReport 0 0 0)
-      → after ≡ cond wrong report (settledReport (recordIn after) f d)
-  zeros true after f d no-fund no-demand written = written
-  zeros false after f d no-fund no-demand written =
-      written ∙ (λ i. settledReport (sym (ap recordIn written) i) (sym no-fund i) (sym no-demand i))
-
   pub refused-event : (number : ℕ) (reportAfter : List ℤ) → number ≡ own → (number ≡ 0 → ⊥)
       → reportAfter ≡ cond (isWrongReport settledWords (length report)) report (settledReport 0 0 0)
       → Settles call words report lent number words reportAfter lent
@@ -42,17 +36,16 @@ module _ (call : Call) (words : BookWords) (report lent : List ℤ) where
   refused-event number reportAfter is some written =
       record {
         number = is ∙ sym (answer-refused own _ own (λ z. some (is ∙ z)));
-        names =
-            λ fits.
-            subst (λ (r : List ℤ). namesRecord call number (recordIn r) ≡ true)
-            (sym (written ∙ ap (λ (wrong : Bool). cond wrong report (settledReport 0 0 0)) fits))
-            (names-none call number (omega (arith, is, words-most settledWords words (length report))));
-        reports =
-            zeros (isWrongReport settledWords (length report)) reportAfter _ _ (answer-refused number (fund call book) 0 some) (answer-refused number (demand call book) 0 some)
-            written;
+        reports = written ∙ ap (cond (isWrongReport settledWords (length report)) report) zeros;
         givesBook = sym (answer-refused number _ words some);
         writesLines = sym (answer-refused number _ lent some);
       }
+    where
+      zeros : settledReport 0 0 0 ≡ settledReport (recordOf call number) (answerBy number (fund call book) 0) (answerBy number (demand call book) 0)
+      zeros =
+          λ i.
+          settledReport (sym (record-none call number (omega (arith, is, words-most settledWords words (length report)))) i)
+          (sym (answer-refused number (fund call book) 0 some) i) (sym (answer-refused number (demand call book) 0 some) i)
 
   -- ---- the event of the book
 
@@ -62,17 +55,17 @@ module _ (call : Call) (words : BookWords) (report lent : List ℤ) where
 
     fund-fits : (accepted : Dec (number-of ≡ 0)) → result .fund < 2 ^ 63
     fund-fits (yes z) =
-        omega (arith, small-amounts call book (length lent) z .fundMost, answered .reportsFund ∙ answer-accepted number-of (fund call book) 0 z)
-    fund-fits (no some) = omega (arith, answered .reportsFund ∙ answer-refused number-of (fund call book) 0 some)
+        omega (arith, small-amounts call book (length lent) z .fundMost, gives-fund answered ∙ answer-accepted number-of (fund call book) 0 z)
+    fund-fits (no some) = omega (arith, gives-fund answered ∙ answer-refused number-of (fund call book) 0 some)
 
     demand-fits : (accepted : Dec (number-of ≡ 0)) → result .demand < 2 ^ 63
     demand-fits (yes z) =
         omega
-        (arith, small-amounts call book (length lent) z .demandMost, answered .reportsDemand ∙ answer-accepted number-of (demand call book) 0 z)
-    demand-fits (no some) = omega (arith, answered .reportsDemand ∙ answer-refused number-of (demand call book) 0 some)
+        (arith, small-amounts call book (length lent) z .demandMost, gives-demand answered ∙ answer-accepted number-of (demand call book) 0 z)
+    demand-fits (no some) = omega (arith, gives-demand answered ∙ answer-refused number-of (demand call book) 0 some)
 
     book-after : number-of ≡ 0 → result .book ≡ bookAfter call book
-    book-after z = answered .givesBook ∙ answer-accepted number-of (bookAfter call book) book z
+    book-after z = gives-book answered ∙ answer-accepted number-of (bookAfter call book) book z
 
     surpluses-fit : number-of ≡ 0 → SurplusesFit (result .book)
     surpluses-fit z =
@@ -82,10 +75,10 @@ module _ (call : Call) (words : BookWords) (report lent : List ℤ) where
     pub result-fits : records call < 2 ^ 63 → ResultFits result
     result-fits few =
         record {
-          named = omega (arith, named-within call _ _ (answered .names));
+          named = omega (arith, gives-record answered, record-within call number-of);
           paidFrom = fund-fits (ℕ-discrete number-of 0);
           wanted = demand-fits (ℕ-discrete number-of 0);
-          kept = λ z. surpluses-fit (sym (answered .number) ∙ z);
+          kept = λ z. surpluses-fit (sym (gives-number answered) ∙ z);
         }
 
     pub settled-event : (number : ℕ) (wordsAfter : BookWords) (reportAfter : List ℤ) → own ≡ 0 → number ≡ result .refusal
@@ -96,20 +89,16 @@ module _ (call : Call) (words : BookWords) (report lent : List ℤ) where
     settled-event number wordsAfter reportAfter clear is written kept =
         record {
           number = same ∙ sym (answer-accepted own number-of own clear);
-          names =
-              λ fits.
-              subst (λ (r : List ℤ). namesRecord call number (recordIn r) ≡ true) (sym written)
-              (subst (λ (n : ℕ). namesRecord call n (result .faulty) ≡ true) (sym is) (answered .names));
           reports =
               written
-              ∙ (λ i. settledReport (sym (ap recordIn written) i) ((answered .reportsFund ∙ by-number (fund call book) 0) i) ((answered .reportsDemand ∙ by-number (demand call book) 0) i))
-              ∙ sym (ap (λ (wrong : Bool). cond wrong report (settledReport (recordIn reportAfter) (answerBy number (fund call book) 0) (answerBy number (demand call book) 0))) (words-clear settledWords words (length report) clear .1));
+              ∙ (λ i. settledReport ((gives-record answered ∙ ap (recordOf call) (sym same)) i) ((gives-fund answered ∙ by-number (fund call book) 0) i) ((gives-demand answered ∙ by-number (demand call book) 0) i))
+              ∙ sym (ap (λ (wrong : Bool). cond wrong report (settledReport (recordOf call number) (answerBy number (fund call book) 0) (answerBy number (demand call book) 0))) (words-clear settledWords words (length report) clear .1));
           givesBook = kept ∙ words-of (ℕ-discrete number 0);
-          writesLines = answered .writesLines ∙ by-number (lines call book) lent;
+          writesLines = answered .writes ∙ by-number (lines call book) lent;
         }
       where
         same : number ≡ number-of
-        same = is ∙ answered .number
+        same = is ∙ gives-number answered
 
         by-number : {A : Type 0} (accepted refused : A) → answerBy number-of accepted refused ≡ answerBy number accepted refused
         by-number accepted refused = ap (λ (n : ℕ). answerBy n accepted refused) (sym same)

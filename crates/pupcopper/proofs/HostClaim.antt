@@ -1,32 +1,32 @@
--- A host's list of events makes a ledger, so that the claim holds of it.
+-- A host's list of events makes the ledger of its calls, so that the claim holds of it.
 -- Assumes nothing.
 use Prim.Native.Nat.{ℕ, zero-le}
 use mathlib.Core.Path.{_≡_, refl, sym, ap, subst, _∙_}
 use mathlib.Core.Bool.{Bool, true, false, cond}
-use mathlib.Core.List.{List, [], _∷_}
+use mathlib.Core.List.{List, [], _∷_, map}
 use native.Mathlib.Decide.{ℕ-discrete}
 use native.Mathlib.Omega.{arith}
 use lib.Dec.{ltb}
-use lib.ListN.{length, getD}
-use lib.IntN.{ℤ, pos}
+use lib.ListN.{length}
+use lib.IntN.{ℤ}
 use borrow.Author.Tests.{le-ltb}
 use Rattle.numbers.specs.Limits.{owners}
 use Rattle.numbers.specs.Refusals.{answerBy}
-use Rattle.numbers.specs.Signs.{positive}
 use Rattle.numbers.proofs.Counts.{length-listBelow}
 use Rattle.numbers.proofs.Refusals.{answer-accepted, answer-refused}
 use Rattle.settlement.specs.declared.Book.{Book}
 use Rattle.settlement.specs.Book.{fresh}
-use Rattle.settlement.specs.Events.{Call, fund, demand, bookAfter, lines, refusal, Answered}
-use Rattle.settlement.specs.Ledger.{bookAt, IsLedger}
+use Rattle.settlement.specs.Events.{Call, fund, demand, bookAfter, lines, refusal, recordOf, Answered}
+use Rattle.settlement.specs.Ledger.{asked, bookAt, ledgerOf, IsLedger}
 use Rattle.settlement.specs.Claim.{Claim}
-use Rattle.settlement.proofs.ClaimHolds.{claim, book-at-start, book-at-entry}
+use Rattle.settlement.proofs.ClaimHolds.{claim}
+use Rattle.settlement.proofs.OneLedger.{book-at-start, book-at-entry, only-ledger}
 use Rattle.settlement.proofs.Kept.{kept-fresh}
 use Rattle.settlement.proofs.SameCells.{long-after}
 use Rattle.settlement.proofs.Shares.{IsLong}
 use Rattle.pupcopper.specs.BookWords.{BookWords, shortfallWords, countsOf, byOwner, surplusesOf, wordsOf, cellsFrom, bookFrom, isNoBook, isWrongCount, isWrongMark, isOverdrawn}
-use Rattle.pupcopper.specs.Calls.{numberOf, isWrongReport, settledWords, settledReport, eventRefusal, recordIn, Settles}
-use Rattle.pupcopper.specs.HostLedger.{HostEntry, wordsAt, IsHostList, entryOf, ledgerOf}
+use Rattle.pupcopper.specs.Calls.{numberOf, isWrongReport, settledWords, settledReport, eventRefusal, Settles}
+use Rattle.pupcopper.specs.HostLedger.{HostEntry, wordsAt, IsHostList, wordIn, entryOf, hostLedger}
 use Rattle.pupcopper.proofs.BothWays.{book-back}
 use Rattle.pupcopper.proofs.WordRows.{wrong-report, good-words}
 
@@ -101,21 +101,31 @@ module _ (entry : HostEntry) (words : BookWords) (good : Good words)
               ap bookFrom (settles .givesBook ∙ answer-refused number (wordsOf (bookAfter call book)) words some)
               ∙ sym (answer-refused number (bookAfter call book) book some)
 
-      report-is : entry .reported ≡ settledReport (recordIn (entry .reported)) (answerBy number (fund call book) 0) (answerBy number (demand call book) 0)
+      -- the report's three words
+      report-is : entry .reported ≡ settledReport (recordOf call number) (answerBy number (fund call book) 0) (answerBy number (demand call book) 0)
       report-is =
           settles .reports
-          ∙ ap (λ (wrong : Bool). cond wrong (entry .report) (settledReport (recordIn (entry .reported)) (answerBy number (fund call book) 0) (answerBy number (demand call book) 0))) fits
+          ∙ ap (λ (wrong : Bool). cond wrong (entry .report) (settledReport (recordOf call number) (answerBy number (fund call book) 0) (answerBy number (demand call book) 0))) fits
+
+      word-is : (place : ℕ)
+          → wordIn (entry .reported) place
+          ≡ wordIn (settledReport (recordOf call number) (answerBy number (fund call book) 0) (answerBy number (demand call book) 0)) place
+      word-is place = ap (λ (r : List ℤ). wordIn r place) report-is
 
       -- the call is an entry on the book that the words stand for
       is-entry : Answered call book (entry .lent) (entryOf entry .result) (entry .written)
       is-entry =
           record {
-            number = number-is;
-            names = settles .names fits;
-            reportsFund = ap (λ (r : List ℤ). positive (getD r 1 (pos 0))) report-is ∙ by-number (fund call book) 0;
-            reportsDemand = ap (λ (r : List ℤ). positive (getD r 2 (pos 0))) report-is ∙ by-number (demand call book) 0;
-            givesBook = book-is ∙ by-number (bookAfter call book) book;
-            writesLines = settles .writesLines ∙ by-number (lines call book) (entry .lent);
+            gives =
+                λ i.
+                record {
+                  refusal = number-is i;
+                  faulty = (word-is 0 ∙ ap (recordOf call) number-is) i;
+                  fund = (word-is 1 ∙ by-number (fund call book) 0) i;
+                  demand = (word-is 2 ∙ by-number (demand call book) 0) i;
+                  book = (book-is ∙ by-number (bookAfter call book) book) i;
+                };
+            writes = settles .writesLines ∙ by-number (lines call book) (entry .lent);
           }
 
     -- and the words after it are a book's
@@ -135,13 +145,13 @@ module _ (entry : HostEntry) (words : BookWords) (good : Good words)
 -- what a list of calls keeps: its words are a book's, its ledger is one, and ends in the book that the words stand for
 record HostKept (list : List HostEntry) : Type 0 where
   pub sound : Good (wordsAt list)
-  pub same : bookAt (ledgerOf list) ≡ bookFrom (wordsAt list)
-  pub ledger : IsLedger (ledgerOf list)
+  pub same : bookAt (hostLedger list) ≡ bookFrom (wordsAt list)
+  pub ledger : IsLedger (hostLedger list)
 
 kept-next : (entry : HostEntry) (past : List HostEntry) → HostKept past
     → Settles (entry .call) (wordsAt past) (entry .report) (entry .lent) (entry .number) (entry .words) (entry .reported) (entry .written)
     → HostKept (entry ∷ past)
-unfolding wordsAt ledgerOf
+unfolding wordsAt hostLedger
 kept-next entry past kept settles =
     record {
       sound = good-after entry (wordsAt past) (kept .sound) settles;
@@ -150,12 +160,12 @@ kept-next entry past kept settles =
     }
   where
     same-next : (wrong : Bool) → isWrongReport settledWords (length (entry .report)) ≡ wrong
-        → bookAt (cond wrong (ledgerOf past) (entryOf entry ∷ ledgerOf past)) ≡ bookFrom (entry .words)
+        → bookAt (cond wrong (hostLedger past) (entryOf entry ∷ hostLedger past)) ≡ bookFrom (entry .words)
     same-next true wrong = kept .same ∙ ap bookFrom (sym (unchanged entry (wordsAt past) (kept .sound) settles wrong))
-    same-next false fits = book-at-entry (entryOf entry) (ledgerOf past)
+    same-next false fits = book-at-entry (entryOf entry) (hostLedger past)
 
     ledger-next : (wrong : Bool) → isWrongReport settledWords (length (entry .report)) ≡ wrong
-        → IsLedger (cond wrong (ledgerOf past) (entryOf entry ∷ ledgerOf past))
+        → IsLedger (cond wrong (hostLedger past) (entryOf entry ∷ hostLedger past))
     ledger-next true wrong = kept .ledger
     ledger-next false fits = (
       subst (λ (b : Book). Answered (entry .call) b (entry .lent) (entryOf entry .result) (entry .written)) (sym (kept .same))
@@ -164,7 +174,7 @@ kept-next entry past kept settles =
     )
 
 kept-all : (list : List HostEntry) → IsHostList list → HostKept list
-unfolding wordsAt ledgerOf
+unfolding wordsAt hostLedger
 kept-all [] settled =
     record {
       sound = words-good fresh;
@@ -173,8 +183,10 @@ kept-all [] settled =
     }
 kept-all (entry ∷ past) settled = kept-next entry past (kept-all past (settled .1)) (settled .0)
 
--- the claim of every list of a host's calls, and the book that it speaks of
+-- what a host reads off its calls is the ledger of those calls, so the claim holds of it; and its book is the one that the words stand for
 pub host-claim : (list : List HostEntry) → IsHostList list
-    → Claim (ledgerOf list) × (bookAt (ledgerOf list) ≡ bookFrom (wordsAt list))
+    → (hostLedger list ≡ ledgerOf (map asked (hostLedger list))) × Claim (hostLedger list) × (bookAt (hostLedger list) ≡ bookFrom (wordsAt list))
 host-claim list settled =
-    let kept = kept-all list settled in (claim (ledgerOf list) (kept .ledger), kept .same)
+    let kept = kept-all list settled in
+    let is = only-ledger (hostLedger list) (kept .ledger) in
+    (is, subst Claim (sym is) (claim (map asked (hostLedger list))), kept .same)

@@ -15,12 +15,12 @@ use Rattle.settlement.proofs.Amounts.{small-amounts}
 use Rattle.statement_text.specs.Buffer.{textAfter}
 use Rattle.statement_text.specs.Text.{lineRoom}
 use Rattle.settlement_run.specs.declared.Run.{Run}
-use Rattle.settlement_run.specs.Calls.{Steps, lastText, closed}
+use Rattle.settlement_run.specs.Calls.{steppedRun, steppedText, lastText, closed}
 use Rattle.settlement_run.proofs.BookAfter.{steps-keep}
 use Rattle.pupcopper.specs.BookWords.{BookWords, wordsOf, bookFrom}
 use Rattle.pupcopper.specs.Calls.{wordsRefusal}
 use Rattle.pupcopper.specs.InnerContracts.{SurplusesFit, runAt}
-use Rattle.pupcopper.specs.RunCalls.{runFrom, steppedWords, steppedReport, closedWords, closedReport, reported, HostSteps, closingRun, closingText}
+use Rattle.pupcopper.specs.RunCalls.{runFrom, steppedWords, steppedReport, closedWords, closedReport, reported, hostStep, HostSteps, closingRun, closingText}
 use Rattle.pupcopper.proofs.ReportWords.{report-fits, report-wrong}
 
 -- ---- a report, if it has its places
@@ -44,8 +44,8 @@ surpluses-keep call book accepted fits =
 pub run-fits : {book : Book} {number end : ℕ} {run : Run} → run ≡ runAt book number end → SurplusesFit book → SurplusesFit (run .book)
 run-fits stands fits = subst (λ (r : Run). SurplusesFit (r .book)) (sym stands) fits
 
-pub step-fits : {file block before after : List ℕ} {run result : Run} → Steps file block run before result after → SurplusesFit (run .book)
-    → SurplusesFit (result .book)
+pub step-fits : (file block : List ℕ) (run : Run) (before : List ℕ) {result : Run} → result ≡ steppedRun file block run before
+    → SurplusesFit (run .book) → SurplusesFit (result .book)
 step-fits = steps-keep SurplusesFit surpluses-keep
 
 pub run-of-words : (words : BookWords) {book : Book} {number end : ℕ} {run : Run} → run ≡ runAt book number end → book ≡ bookFrom words
@@ -63,28 +63,30 @@ module _ (file block : List ℕ) (words : BookWords) (before : List ℕ) (end : 
       → HostSteps file block words before end report number words before reportAfter
   refused-step is some stands written =
       let refused : own ≡ 0 → ⊥ = λ none. some (is ∙ none) in
+      let still = answer-refused own (steppedRun file block (runFrom words 0 end) before) (runFrom words 0 end) refused in
       record {
-        result = runFrom words 0 end;
-        refused = λ _. (refl, refl);
-        steps = λ none. absurd (refused none);
         number = is ∙ sym (answer-refused own _ own refused);
-        reports = written ∙ ap (λ (r : Run). reported steppedWords report (steppedReport r)) stands;
+        reports =
+            written ∙ ap (λ (r : Run). reported steppedWords report (steppedReport r)) stands
+            ∙ sym (ap (λ (r : Run). reported steppedWords report (steppedReport r)) still);
         givesBook = sym (answer-refused own _ words refused);
+        writes = sym (answer-refused own _ before refused);
       }
 
   pub taken-step : {run result : Run} {wordsAfter : BookWords} {after reportAfter : List ℕ} → own ≡ 0 → run ≡ runFrom words 0 end
-      → Steps file block run before result after → reportAfter ≡ reported steppedWords report (steppedReport result)
-      → wordsAfter ≡ wordsOf (result .book)
+      → result ≡ steppedRun file block run before → after ≡ steppedText file block run before
+      → reportAfter ≡ reported steppedWords report (steppedReport result) → wordsAfter ≡ wordsOf (result .book)
       → HostSteps file block words before end report (result .refusal) wordsAfter after reportAfter
-  taken-step {result = result} {after = after} clear is steps written kept =
+  taken-step {result = result} clear is steps text written kept =
       record {
-        result = result;
-        refused = λ some. absurd (some clear);
-        steps = λ _. subst (λ (r : Run). Steps file block r before result after) is steps;
-        number = sym (answer-accepted own _ own clear);
-        reports = written;
-        givesBook = kept ∙ sym (answer-accepted own _ words clear);
+        number = ap (λ (r : Run). r .refusal) same ∙ sym (answer-accepted own _ own clear);
+        reports = written ∙ ap (λ (r : Run). reported steppedWords report (steppedReport r)) same;
+        givesBook = kept ∙ ap (λ (r : Run). wordsOf (r .book)) same ∙ sym (answer-accepted own _ words clear);
+        writes = text ∙ ap (λ (r : Run). steppedText file block r before) is ∙ sym (answer-accepted own _ before clear);
       }
+    where
+      same : result ≡ hostStep file block words before end (length report)
+      same = steps ∙ ap (λ (r : Run). steppedRun file block r before) is ∙ sym (answer-accepted own _ _ clear)
 
 -- ---- the closing
 

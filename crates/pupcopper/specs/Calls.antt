@@ -6,15 +6,14 @@ use mathlib.Core.Path.{_≡_}
 use mathlib.Core.Bool.{Bool, true, false, cond, not}
 use mathlib.Core.List.{List, [], _∷_, _++_}
 use lib.Dec.{eqb}
-use lib.ListN.{length, getD}
+use lib.ListN.{length}
 use lib.IntN.{ℤ, pos}
 use Rattle.numbers.specs.Refusals.{firstRefusal, _if_, answerBy}
-use Rattle.numbers.specs.Signs.{positive}
 use Rattle.calendar.specs.declared.OperatingHour.{OperatingHour}
 use Rattle.rights.specs.declared.Right.{Right}
 use Rattle.rights.specs.Layout.{reading}
 use Rattle.rights.specs.Reader.{isFinished, nextAfter}
-use Rattle.settlement.specs.Events.{Call, refusal, namesRecord, fund, demand, bookAfter, lines}
+use Rattle.settlement.specs.Events.{Call, refusal, recordOf, fund, demand, bookAfter, lines}
 use Rattle.pupcopper.specs.BookWords.{BookWords, wordsOf, bookFrom, isWrongCount, isWrongMark, isOverdrawn}
 
 -- the number of a call: that of its words, or the library's where they have none
@@ -102,18 +101,13 @@ wordsRefusal places words report =
 unfoldable pub eventRefusal : Call → BookWords → ℕ → ℕ → ℕ
 eventRefusal call words report places = numberOf (wordsRefusal settledWords words report) (refusal call (bookFrom words) places)
 
--- the record number in a report
-abbrev pub recordIn : List ℤ → ℕ
-recordIn report = positive (getD report 0 (pos 0))
-
 -- what an event promises to a host: the number, the report, the words of the book and the lines after it, for any words, any report
 -- and any lines. Accepted: as the event of the book that the words stand for. Refused: nothing is written but the report
 pub record Settles (call : Call) (words : BookWords) (report lent : List ℤ) (given : ℕ) (wordsAfter : BookWords) (reportAfter linesAfter : List ℤ)
     : Type 0 where
   pub number : given ≡ eventRefusal call words (length report) (length lent)
-  pub names : isWrongReport settledWords (length report) ≡ false → namesRecord call given (recordIn reportAfter) ≡ true
   pub reports : reportAfter
       ≡ cond (isWrongReport settledWords (length report)) report
-      (settledReport (recordIn reportAfter) (answerBy given (fund call (bookFrom words)) 0) (answerBy given (demand call (bookFrom words)) 0))
+      (settledReport (recordOf call given) (answerBy given (fund call (bookFrom words)) 0) (answerBy given (demand call (bookFrom words)) 0))
   pub givesBook : wordsAfter ≡ answerBy given (wordsOf (bookAfter call (bookFrom words))) words
   pub writesLines : linesAfter ≡ answerBy given (lines call (bookFrom words)) lent

@@ -10,7 +10,7 @@ use Rattle.settlement.specs.Book.{fresh}
 use Rattle.settlement.specs.Events.{Call}
 use Rattle.settlement.specs.Ledger.{Entry}
 use Rattle.pupcopper.specs.BookWords.{BookWords, wordsOf, bookFrom}
-use Rattle.pupcopper.specs.Calls.{isWrongReport, settledWords, recordIn, Settles}
+use Rattle.pupcopper.specs.Calls.{isWrongReport, settledWords, Settles}
 
 -- a call of a host: the event, the report and the lines lent with it, its number, and the words, the report and the lines after it
 pub record HostEntry : Type 0 where
@@ -34,7 +34,11 @@ IsHostList (entry ∷ past) =
     Settles (entry .call) (wordsAt past) (entry .report) (entry .lent) (entry .number) (entry .words) (entry .reported) (entry .written)
     × IsHostList past
 
--- the entry of a ledger that a call makes: F and D are those of its report, the book is the one that its words stand for
+-- a number in a report
+abbrev pub wordIn : List ℤ → ℕ → ℕ
+wordIn report place = positive (getD report place (pos 0))
+
+-- the entry of a ledger that a call makes: record number, F and D are those of its report, the book is the one that its words stand for
 abbrev pub entryOf : HostEntry → Entry
 entryOf entry =
     record {
@@ -43,16 +47,16 @@ entryOf entry =
       result =
           record {
             refusal = entry .number;
-            faulty = recordIn (entry .reported);
-            fund = positive (getD (entry .reported) 1 (pos 0));
-            demand = positive (getD (entry .reported) 2 (pos 0));
+            faulty = wordIn (entry .reported) 0;
+            fund = wordIn (entry .reported) 1;
+            demand = wordIn (entry .reported) 2;
             book = bookFrom (entry .words);
           };
       written = entry .written;
     }
 
 -- the ledger of a host's list; a call with a report of another length is refused before the library is called, and makes no entry
-unfoldable pub ledgerOf : List HostEntry → List Entry
-ledgerOf [] = []
-ledgerOf (entry ∷ past) =
-    cond (isWrongReport settledWords (length (entry .report))) (ledgerOf past) (entryOf entry ∷ ledgerOf past)
+unfoldable pub hostLedger : List HostEntry → List Entry
+hostLedger [] = []
+hostLedger (entry ∷ past) =
+    cond (isWrongReport settledWords (length (entry .report))) (hostLedger past) (entryOf entry ∷ hostLedger past)

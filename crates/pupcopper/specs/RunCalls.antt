@@ -9,9 +9,9 @@ use Rattle.numbers.specs.Refusals.{answerBy}
 use Rattle.statement_text.specs.Buffer.{textAfter}
 use Rattle.statement_text.specs.Text.{lineRoom}
 use Rattle.settlement_run.specs.declared.Run.{Run}
-use Rattle.settlement_run.specs.Calls.{Steps, lastText, closed}
+use Rattle.settlement_run.specs.Calls.{steppedRun, steppedText, lastText, closed}
 use Rattle.pupcopper.specs.BookWords.{BookWords, wordsOf, bookFrom}
-use Rattle.pupcopper.specs.Calls.{isWrongReport, wordsRefusal}
+use Rattle.pupcopper.specs.Calls.{numberOf, isWrongReport, wordsRefusal}
 
 -- the run that a host's words stand for: its book, the refusal that stopped it or 0, and the end of its text
 abbrev pub runFrom : BookWords → ℕ → ℕ → Run
@@ -44,18 +44,21 @@ closedReport run = cond (run .full) 1 0 ∷ run .end ∷ []
 abbrev pub reported : ℕ → List ℕ → List ℕ → List ℕ
 reported places before report = cond (isWrongReport places (length before)) before report
 
--- what a step promises to a host, for any words, any bytes as rights and as block, any text, any end and any report. The run of the host's
--- words goes on from a result: that run itself where the words are refused, else what the library's step gives. The report is that of the
--- result, and where the words are not refused so are the number and the words of the book
+-- a step: the library's on the run that stands at the host's words; that run itself where the words are refused
+abbrev pub hostStep : List ℕ → List ℕ → BookWords → List ℕ → ℕ → ℕ → Run
+hostStep file block words before end report =
+    answerBy (wordsRefusal steppedWords words report) (steppedRun file block (runFrom words 0 end) before) (runFrom words 0 end)
+
+-- what it promises, for any words, any bytes as rights and as block, any text, any end and any report
 pub record HostSteps (file block : List ℕ) (words : BookWords) (before : List ℕ) (end : ℕ) (report : List ℕ) (given : ℕ)
     (wordsAfter : BookWords) (after reportAfter : List ℕ) : Type 0 where
-  pub result : Run
-  pub refused : (wordsRefusal steppedWords words (length report) ≡ 0 → ⊥) → (result ≡ runFrom words 0 end) × (after ≡ before)
-  pub steps : wordsRefusal steppedWords words (length report) ≡ 0 → Steps file block (runFrom words 0 end) before result after
   pub number : given
-      ≡ answerBy (wordsRefusal steppedWords words (length report)) (result .refusal) (wordsRefusal steppedWords words (length report))
-  pub reports : reportAfter ≡ reported steppedWords report (steppedReport result)
-  pub givesBook : wordsAfter ≡ answerBy (wordsRefusal steppedWords words (length report)) (wordsOf (result .book)) words
+      ≡ numberOf (wordsRefusal steppedWords words (length report)) (hostStep file block words before end (length report) .refusal)
+  pub reports : reportAfter ≡ reported steppedWords report (steppedReport (hostStep file block words before end (length report)))
+  pub givesBook : wordsAfter
+      ≡ answerBy (wordsRefusal steppedWords words (length report)) (wordsOf (hostStep file block words before end (length report) .book)) words
+  pub writes : after
+      ≡ answerBy (wordsRefusal steppedWords words (length report)) (steppedText file block (runFrom words 0 end) before) before
 
 -- the closing: the last line of the run that stands at the host's words, with the refusal that stopped it or 0
 abbrev pub closingRun : BookWords → ℕ → List ℕ → ℕ → ℕ → Run

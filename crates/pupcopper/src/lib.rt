@@ -6,7 +6,7 @@ ghost use lib.ListN.{length, getD};
 ghost use Rattle.numbers.specs.Refusals.{answerBy};
 ghost use Rattle.calendar.specs.Year.{operatingHour};
 ghost use Rattle.rights.specs.Layout.{reading};
-ghost use Rattle.rights.specs.Faults.{namesFault};
+ghost use Rattle.rights.specs.Faults.{faultyRecord};
 ghost use Rattle.split.specs.Split.{allocation, paymentsAfter};
 ghost use Rattle.target.specs.Rounding.{roundTenths};
 ghost use Rattle.target.specs.Target.{targetLines, targetRefusal};
@@ -109,8 +109,7 @@ pub extern "C" fn pupcopper_targets(
 ) -> u8
     ensures { λ r. ⌜ r ≡ numberOf (reportRefusal outcomeWords (length (now (report .entry)))) (targetRefusal (now (rights .entry)) (now (prices .entry)) hour (length (now (lines .entry)))) ⌝ }
     ensures { λ _. ⌜ now (lines .exit) ≡ answerBy (reportRefusal outcomeWords (length (now (report .entry)))) (targetLines (now (rights .entry)) (now (prices .entry)) hour (now (lines .entry))) (now (lines .entry)) ⌝ }
-    ensures { λ _. ⌜ now (report .exit) ≡ answerBy (reportRefusal outcomeWords (length (now (report .entry)))) (getD (now (report .exit)) 0 0 ∷ []) (now (report .entry)) ⌝ }
-    ensures { λ r. ⌜ (reportRefusal outcomeWords (length (now (report .entry))) ≡ 0 → namesFault (length (now (prices .entry))) (now (rights .entry)) r (getD (now (report .exit)) 0 0) ≡ true) ⌝ }
+    ensures { λ _. ⌜ now (report .exit) ≡ answerBy (reportRefusal outcomeWords (length (now (report .entry)))) (faultyRecord (length (now (prices .entry))) (now (rights .entry)) (targetRefusal (now (rights .entry)) (now (prices .entry)) hour (length (now (lines .entry)))) ∷ []) (now (report .entry)) ⌝ }
 {
     if report.len() != reports::OUTCOME_WORDS {
         return 4;

@@ -1,35 +1,34 @@
 -- The refusal of a whole file, row by row of its table, and the record that it names.
 -- Assumes nothing.
 use Prim.Native.Nat.{ℕ, _<_, _≤_}
-use mathlib.Core.Path.{_≡_, refl, sym, subst}
-use mathlib.Core.Bool.{Bool, true, false, cond, not, _&&_, _||_, false≢true}
+use mathlib.Core.Path.{_≡_, refl, sym, subst, _∙_}
+use mathlib.Core.Bool.{Bool, true, false, cond, not, _||_, false≢true}
 use mathlib.Core.List.{List, []}
-use native.Mathlib.Nat.{le-antisymm}
-use lib.Dec.{ltb, eqb}
+use native.Mathlib.Decide.{ℕ-discrete}
+use lib.Dec.{eqb}
 use lib.ListN.{length}
 use native.Mathlib.Omega.{arith}
-use borrow.Author.Tests.{lt-ltb, ltb-true, ne-eqb, eqb-true}
-use Rattle.numbers.specs.Lists.{anyBelow, IsFirst}
+use borrow.Author.Tests.{ne-eqb}
+use Rattle.numbers.specs.Lists.{anyBelow, lowestBelow, IsLowest}
 use Rattle.numbers.specs.Refusals.{firstRefusal}
-use Rattle.numbers.proofs.Any.{any-here, any-find}
-use Rattle.numbers.proofs.Booleans.{both-true}
+use Rattle.numbers.proofs.Any.{any-here}
+use Rattle.numbers.proofs.Lowest.{lowest-only, lowest-found, lowest-inside, lowest-past, lowest-within}
 use Rattle.numbers.proofs.Refusals.{isWithin, refusal-next}
 use Rattle.rights.specs.Layout.{recordCount, rightAt, isGood, isWrongLength}
-use Rattle.rights.specs.Faults.{isUnpriced, faultAt, anyFault, faultRows, fileRefusal, namesFault}
+use Rattle.rights.specs.Faults.{isUnpriced, faultAt, anyFault, faultRows, fileRefusal, faultyRecord}
 
 module _ (prices : ℕ) (file : List ℕ) where
-  -- what a search for the first record with a fault says of the whole file
-  pub some-fault : (refusal r : ℕ) → IsFirst (faultAt prices file refusal) (recordCount file) r → r < recordCount file
-      → anyFault prices file refusal ≡ true
-  unfolding anyFault
-  some-fault refusal r first inside =
-      any-here (faultAt prices file refusal) (recordCount file) r inside (first .here inside)
+  -- the lowest record with a fault, and whether some record has it
+  abbrev lowest : ℕ → ℕ
+  lowest refusal = lowestBelow (faultAt prices file refusal) (recordCount file)
 
-  pub no-fault : (refusal r : ℕ) → IsFirst (faultAt prices file refusal) (recordCount file) r → recordCount file ≤ r
-      → anyFault prices file refusal ≡ false
+  pub some-fault : (refusal : ℕ) → lowest refusal < recordCount file → anyFault prices file refusal ≡ true
   unfolding anyFault
-  no-fault refusal r first past =
-      subst (λ (n : ℕ). anyBelow (faultAt prices file refusal) n ≡ false) (le-antisymm (first .within) past) (first .before)
+  some-fault refusal inside = lowest-inside (faultAt prices file refusal) (recordCount file) inside
+
+  pub no-fault : (refusal : ℕ) → recordCount file ≤ lowest refusal → anyFault prices file refusal ≡ false
+  unfolding anyFault
+  no-fault refusal past = lowest-past (faultAt prices file refusal) (recordCount file) past
 
   pub file-4 : isWrongLength (length file) ≡ true → 4 ≡ fileRefusal prices file
   unfolding fileRefusal faultRows firstRefusal
@@ -84,12 +83,6 @@ module _ (prices : ℕ) (file : List ℕ) where
       by-test false true _ e is = subst (λ (n : ℕ). anyFault prices file n ≡ true) is e
       by-test false false _ _ is = absurd (some (sym is))
 
-  -- a record with the fault, where some record has it
-  pub fault-found : (refusal : ℕ) → anyFault prices file refusal ≡ true
-      → (number : ℕ) × (number < recordCount file) × (faultAt prices file refusal number ≡ true)
-  unfolding anyFault
-  fault-found refusal some = any-find (faultAt prices file refusal) (recordCount file) some
-
   -- one record's fault, by its right
   pub fault-7 : (number : ℕ) → faultAt prices file 7 number ≡ not (isGood (rightAt file number))
   unfolding faultAt
@@ -110,31 +103,51 @@ module _ (prices : ℕ) (file : List ℕ) where
   unfolding anyFault
   no-fault-to refusal none = none
 
-  pub names-7 : (r : ℕ) → r < recordCount file → faultAt prices file 7 r ≡ true → namesFault prices file 7 r ≡ true
-  unfolding namesFault
-  names-7 r inside here = rw (lt-ltb _ _ inside, here)
+  -- ---- the record number
 
-  pub names-8 : (r : ℕ) → r < recordCount file → faultAt prices file 8 r ≡ true → namesFault prices file 8 r ≡ true
-  unfolding namesFault
-  names-8 r inside here = rw (lt-ltb _ _ inside, here)
+  pub faulty-7 : faultyRecord prices file 7 ≡ lowest 7
+  unfolding faultyRecord
+  faulty-7 = refl
 
-  pub names-other : (refusal : ℕ) → (refusal ≡ 7 → ⊥) → (refusal ≡ 8 → ⊥) → namesFault prices file refusal 0 ≡ true
-  unfolding namesFault
-  names-other refusal not-7 not-8 = rw (ne-eqb refusal 7 not-7, ne-eqb refusal 8 not-8)
+  pub faulty-8 : faultyRecord prices file 8 ≡ lowest 8
+  unfolding faultyRecord
+  faulty-8 = refl
 
-  pub names-none : (refusal : ℕ) → refusal < 7 → namesFault prices file refusal 0 ≡ true
-  names-none refusal below = names-other refusal (λ e. omega arith) (λ e. omega arith)
+  pub faulty-other : (refusal : ℕ) → (refusal ≡ 7 → ⊥) → (refusal ≡ 8 → ⊥) → faultyRecord prices file refusal ≡ 0
+  unfolding faultyRecord
+  faulty-other refusal not-7 not-8 = rw (ne-eqb refusal 7 not-7, ne-eqb refusal 8 not-8)
 
-  -- a named record is one of the file
-  pub named-within : (refusal number : ℕ) → namesFault prices file refusal number ≡ true → number ≤ recordCount file
-  unfolding namesFault
-  named-within refusal number names = by-fault (eqb refusal 7 || eqb refusal 8) refl
+  pub faulty-none : (refusal : ℕ) → refusal < 7 → faultyRecord prices file refusal ≡ 0
+  faulty-none refusal below = faulty-other refusal (λ e. omega arith) (λ e. omega arith)
+
+  -- it is no further than the file
+  pub faulty-within : (refusal : ℕ) → faultyRecord prices file refusal ≤ recordCount file
+  unfolding faultyRecord
+  faulty-within refusal = by-fault (eqb refusal 7 || eqb refusal 8)
     where
-      by-fault : (fault : Bool) → (eqb refusal 7 || eqb refusal 8) ≡ fault → number ≤ recordCount file
-      by-fault true is =
-          let named : (ltb number (recordCount file) && faultAt prices file refusal number) ≡ true = rw is at names in
-          omega (arith, ltb-true number (recordCount file) (both-true (ltb number (recordCount file)) (faultAt prices file refusal number) named .0))
-      by-fault false is = omega (arith, eqb-true number 0 (rw is at names))
+      by-fault : (fault : Bool) → cond fault (lowest refusal) 0 ≤ recordCount file
+      by-fault true = lowest-within (faultAt prices file refusal) (recordCount file)
+      by-fault false = omega arith
+
+  -- where some record has the fault of 7 or 8, it is "the lowest one with that fault, all earlier records being free of it"
+  pub first-faulty : (refusal : ℕ) → 7 ≤ refusal → refusal ≤ 8 → anyFault prices file refusal ≡ true
+      → IsLowest (faultAt prices file refusal) (recordCount file) (faultyRecord prices file refusal)
+  unfolding anyFault
+  first-faulty refusal low high some =
+      subst (IsLowest (faultAt prices file refusal) (recordCount file)) (by-number (ℕ-discrete refusal 7))
+      (lowest-found (faultAt prices file refusal) (recordCount file) some)
+    where
+      by-number : Dec (refusal ≡ 7) → lowest refusal ≡ faultyRecord prices file refusal
+      by-number (yes is) = subst (λ (n : ℕ). lowest n ≡ faultyRecord prices file n) (sym is) (sym faulty-7)
+      by-number (no other) = subst (λ (n : ℕ). lowest n ≡ faultyRecord prices file n) (omega arith) (sym faulty-8)
+
+  -- and no other record is
+  pub only-first : (refusal number : ℕ) → 7 ≤ refusal → refusal ≤ 8 → IsLowest (faultAt prices file refusal) (recordCount file) number
+      → number ≡ faultyRecord prices file refusal
+  only-first refusal number low high is =
+      let some = any-fault-here refusal number (is .inside) (is .here) in
+      lowest-only (faultAt prices file refusal) (recordCount file) number is
+      ∙ sym (lowest-only (faultAt prices file refusal) (recordCount file) (faultyRecord prices file refusal) (first-faulty refusal low high some))
 
 -- "An empty file is good": it has the right length, and no record with a fault
 pub empty-length : isWrongLength 0 ≡ false

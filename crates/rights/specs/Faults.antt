@@ -1,11 +1,11 @@
 -- The faults of a whole rights file, for a number of prices.
 -- Assumes nothing.
 use Prim.Native.Nat.{ℕ}
-use mathlib.Core.Bool.{Bool, false, cond, not, _&&_, _||_}
+use mathlib.Core.Bool.{Bool, false, cond, not, _||_}
 use mathlib.Core.List.{List, [], _∷_}
-use lib.Dec.{leb, ltb, eqb}
+use lib.Dec.{leb, eqb}
 use lib.ListN.{length}
-use Rattle.numbers.specs.Lists.{anyBelow}
+use Rattle.numbers.specs.Lists.{anyBelow, lowestBelow}
 use Rattle.numbers.specs.Refusals.{Row, firstRefusal, _if_}
 use Rattle.rights.specs.declared.Right.{Right}
 use Rattle.rights.specs.Layout.{recordCount, rightAt, isGood, isWrongLength}
@@ -36,8 +36,7 @@ faultRows prices file = (7 if anyFault prices file 7) ∷ (8 if anyFault prices 
 unfoldable pub fileRefusal : ℕ → List ℕ → ℕ
 fileRefusal prices file = firstRefusal ((4 if isWrongLength (length file)) ∷ faultRows prices file)
 
--- "In 7 and 8 the record number is that of some record with the fault; which one is free"; else it is 0
-unfoldable pub namesFault : ℕ → List ℕ → ℕ → ℕ → Bool
-namesFault prices file refusal number =
-    cond (eqb refusal 7 || eqb refusal 8) (ltb number (recordCount file) && faultAt prices file refusal number)
-    (eqb number 0)
+-- "In 7 and 8 the record number becomes the lowest one with that fault, all earlier records being free of it" (Wish 3); else it is 0
+unfoldable pub faultyRecord : ℕ → List ℕ → ℕ → ℕ
+faultyRecord prices file refusal =
+    cond (eqb refusal 7 || eqb refusal 8) (lowestBelow (faultAt prices file refusal) (recordCount file)) 0

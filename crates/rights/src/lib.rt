@@ -3,9 +3,9 @@ ghost use mathlib.Core.Path.{_≡_};
 ghost use mathlib.Core.Bool.{true};
 ghost use Prim.Native.Nat.{_+_, _*_, _<_, _≤_};
 ghost use lib.ListN.{length};
-ghost use Rattle.numbers.specs.Lists.{IsFirst};
+ghost use Rattle.numbers.specs.Lists.{lowestBelow};
 ghost use Rattle.rights.specs.Layout.{isGood, isLive, isWrongLength, reading, recordCount, refusedReading, rightFrom, word16, word32};
-ghost use Rattle.rights.specs.Faults.{faultAt, fileRefusal, hasFault, isUnpriced, namesFault};
+ghost use Rattle.rights.specs.Faults.{faultAt, faultyRecord, fileRefusal, hasFault, isUnpriced};
 use calendar::OperatingHour;
 
 mod reader;
@@ -126,9 +126,9 @@ pub fn is_live(right: Right, hour: OperatingHour) -> bool
             | (right.class == 2))
 }
 
-// The first refusal that a file calls for, with so many prices, and a record that has the fault.
+// The first refusal that a file calls for, with so many prices, and the first record that has the fault.
 pub fn file_fault(file: &[u8], prices: usize) -> Outcome
-    ensures { λ r. ⌜ (r .refusal ≡ fileRefusal prices (now (file .entry))) × (namesFault prices (now (file .entry)) (r .refusal) (r .faulty) ≡ true) ⌝ }
+    ensures { λ r. ⌜ (r .refusal ≡ fileRefusal prices (now (file .entry))) × (r .faulty ≡ faultyRecord prices (now (file .entry)) (r .refusal)) ⌝ }
 {
     let bytes = file.len();
     if wrong_length(bytes) {
@@ -160,7 +160,7 @@ pub fn file_fault(file: &[u8], prices: usize) -> Outcome
 
 // The first record with the fault that a refusal stands for, or the number of records.
 fn first_fault(file: &[u8], prices: usize, refusal: u8) -> usize
-    ensures { λ r. ⌜ IsFirst (faultAt prices (now (file .entry)) refusal) (recordCount (now (file .entry))) r ⌝ }
+    ensures { λ r. ⌜ r ≡ lowestBelow (faultAt prices (now (file .entry)) refusal) (recordCount (now (file .entry))) ⌝ }
 {
     let records = file.len() / RECORD_BYTES;
     let mut number = 0;

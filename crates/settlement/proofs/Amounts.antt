@@ -1,21 +1,19 @@
 -- The numbers that an event gives are far below 64 bits: F and D, the surpluses that it leaves, and the record number.
 -- Assumes nothing.
-use Prim.Native.Nat.{ℕ, _+_, _*_, _≤_, _<_}
+use Prim.Native.Nat.{ℕ, _+_, _*_, _≤_}
 use mathlib.Core.Path.{_≡_, refl}
-use mathlib.Core.Bool.{true}
 use mathlib.Core.List.{List}
 use native.Mathlib.Omega.{arith}
 use lib.ListN.{length}
 use lib.IntN.{ℤ}
-use borrow.Author.Tests.{eqb-true}
 use Rattle.numbers.specs.Limits.{mostCents}
 use Rattle.calendar.specs.Year.{hoursInYear}
 use Rattle.rights.specs.Layout.{recordCount}
-use Rattle.rights.specs.Faults.{namesFault}
-use Rattle.rights.proofs.Faults.{named-within as file-named-within, names-none as file-names-none}
+use Rattle.rights.specs.Faults.{faultyRecord}
+use Rattle.rights.proofs.Faults.{faulty-within}
 use Rattle.settlement.specs.declared.Book.{Book}
 use Rattle.settlement.specs.Book.{fresh, mostSurplus, fundLeft}
-use Rattle.settlement.specs.Events.{Call, hourCall, monthEndCall, yearEndCall, eventOf, wants, fund, demand, bookAfter, refusal, namesRecord}
+use Rattle.settlement.specs.Events.{Call, hourCall, monthEndCall, yearEndCall, eventOf, wants, fund, demand, bookAfter, refusal, recordOf}
 use Rattle.settlement.proofs.Accepted.{hour-accepted}
 use Rattle.settlement.proofs.NotSpoiled.{shortfalls-within, surplus-within}
 use Rattle.settlement.proofs.Paying.{left-small}
@@ -75,21 +73,14 @@ records (hourCall file prices collected) = recordCount file
 records monthEndCall = 0
 records yearEndCall = 0
 
-pub named-within : (call : Call) (number faulty : ℕ) → namesRecord call number faulty ≡ true → faulty ≤ records call
-unfolding namesRecord
-named-within (hourCall file prices collected) number faulty names = file-named-within (length prices) file number faulty names
-named-within monthEndCall number faulty names = omega (arith, eqb-true faulty 0 names)
-named-within yearEndCall number faulty names = omega (arith, eqb-true faulty 0 names)
+pub record-within : (call : Call) (number : ℕ) → recordOf call number ≤ records call
+unfolding recordOf
+record-within (hourCall file prices collected) number = faulty-within (length prices) file number
+record-within monthEndCall number = omega arith
+record-within yearEndCall number = omega arith
 
--- a refusal below 7 names none
-pub names-none : (call : Call) (number : ℕ) → number < 7 → namesRecord call number 0 ≡ true
-unfolding namesRecord
-names-none (hourCall file prices collected) number low = file-names-none (length prices) file number low
-names-none monthEndCall number low = refl
-names-none yearEndCall number low = refl
-
--- an hour's names a fault of its file
-pub names-of-hour : (file : List ℕ) (prices : List ℤ) (collected : ℤ) (number faulty : ℕ)
-    → namesRecord (hourCall file prices collected) number faulty ≡ namesFault (length prices) file number faulty
-unfolding namesRecord
-names-of-hour file prices collected number faulty = refl
+-- an hour's is that of its file
+pub record-of-hour : (file : List ℕ) (prices : List ℤ) (collected : ℤ) (number : ℕ)
+    → recordOf (hourCall file prices collected) number ≡ faultyRecord (length prices) file number
+unfolding recordOf
+record-of-hour file prices collected number = refl

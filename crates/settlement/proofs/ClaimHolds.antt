@@ -1,4 +1,4 @@
--- Demand 3: the claim holds of every ledger.
+-- Demand 3: the claim holds of the ledger of every list of calls.
 -- Assumes nothing.
 use Prim.Native.Nat.{ℕ, _<_}
 use mathlib.Core.Path.{_≡_, refl, sym, subst, _∙_}
@@ -13,15 +13,15 @@ use Rattle.numbers.proofs.Refusals.{answer-refused}
 use Rattle.calendar.specs.Year.{monthsInYear}
 use Rattle.settlement.specs.declared.Book.{Book}
 use Rattle.settlement.specs.declared.Settled.{Settled}
-use Rattle.settlement.specs.Book.{fresh}
 use Rattle.settlement.specs.Events.{Call, hourCall, monthEndCall, yearEndCall, wants, fund, lines, bookAfter, Answered}
-use Rattle.settlement.specs.Ledger.{Entry, bookAt, IsLedger}
+use Rattle.settlement.specs.Ledger.{Entry, Asked, bookAt, ledgerOf, IsLedger}
 use Rattle.settlement.specs.Claim.{IsOwed, IsFund, Shared, Sound, SoundAtEach, Claim}
 use Rattle.settlement.proofs.Shares.{wanted, wants-long, paid-most, demand-of-all, near}
 use Rattle.settlement.proofs.Sane.{not-spoiled}
-use Rattle.settlement.proofs.Refusing.{never-1}
+use Rattle.settlement.proofs.Refusing.{never-1, gives-number, gives-book}
 use Rattle.settlement.proofs.Accepted.{hour-accepted, month-accepted, year-accepted}
 use Rattle.settlement.proofs.EntryParts.{Parts, refused-nothing, written-is, book-is, fund-is, demand-is, accepted-parts}
+use Rattle.settlement.proofs.OneLedger.{is-ledger}
 use Rattle.settlement.proofs.Kept.{Kept, kept-fresh, kept-refused}
 use Rattle.settlement.proofs.KeptHour.{hourEntry, kept-hour, target-is, brought}
 use Rattle.settlement.proofs.KeptMonth.{monthEntry, kept-month}
@@ -35,18 +35,18 @@ module _ (past : List Entry) (lent : List ℤ) (result : Settled) (written : Lis
       → Kept (record { call = call; lent = lent; result = result; written = written } ∷ past) (bookAfter call (bookAt past))
   kept-accepted (hourCall file prices collected) answered accepted =
       kept-hour past file prices collected lent result written kept (accepted-parts past (hourEntry past file prices collected lent result written) answered accepted)
-      (hour-accepted file prices collected (bookAt past) (length lent) (sym (answered .number) ∙ accepted))
+      (hour-accepted file prices collected (bookAt past) (length lent) (sym (gives-number answered) ∙ accepted))
   kept-accepted monthEndCall answered accepted =
-      let shown = month-accepted (bookAt past) (length lent) (sym (answered .number) ∙ accepted) in
+      let shown = month-accepted (bookAt past) (length lent) (sym (gives-number answered) ∙ accepted) in
       kept-month past lent result written kept (accepted-parts past (monthEntry past lent result written) answered accepted) (shown .0) (shown .1)
   kept-accepted yearEndCall answered accepted =
       kept-year past lent result written kept (accepted-parts past (yearEntry past lent result written) answered accepted)
-      (year-accepted (bookAt past) (length lent) (sym (answered .number) ∙ accepted) .1)
+      (year-accepted (bookAt past) (length lent) (sym (gives-number answered) ∙ accepted) .1)
 
   -- the year ends with all months closed
   year-closed : Answered yearEndCall (bookAt past) lent result written → result .refusal ≡ 0 → bookAt past .months ≡ monthsInYear
   year-closed answered accepted =
-      le-antisymm (kept .sane .monthsMost) (year-accepted (bookAt past) (length lent) (sym (answered .number) ∙ accepted) .1)
+      le-antisymm (kept .sane .monthsMost) (year-accepted (bookAt past) (length lent) (sym (gives-number answered) ∙ accepted) .1)
 
   -- what is owed and what the fund is, by the kind of call
   owed-is : (call : Call) (answered : Answered call (bookAt past) lent result written) → result .refusal ≡ 0
@@ -56,7 +56,7 @@ module _ (past : List Entry) (lent : List ℤ) (result : Settled) (written : Lis
   owed-is (hourCall file prices collected) answered accepted owner inside =
       sym
       (target-is past file prices collected lent result written kept (accepted-parts past (hourEntry past file prices collected lent result written) answered accepted)
-      (hour-accepted file prices collected (bookAt past) (length lent) (sym (answered .number) ∙ accepted)) owner inside)
+      (hour-accepted file prices collected (bookAt past) (length lent) (sym (gives-number answered) ∙ accepted)) owner inside)
   owed-is monthEndCall answered accepted owner inside = kept .monthOwner owner inside
   owed-is yearEndCall answered accepted owner inside =
       omega (arith, kept .allOwner owner inside, kept .emptyMonth (year-closed answered accepted) .0 owner inside)
@@ -67,7 +67,7 @@ module _ (past : List Entry) (lent : List ℤ) (result : Settled) (written : Lis
   is-fund (hourCall file prices collected) answered accepted =
       sym
       (brought past file prices collected lent result written kept (accepted-parts past (hourEntry past file prices collected lent result written) answered accepted)
-      (hour-accepted file prices collected (bookAt past) (length lent) (sym (answered .number) ∙ accepted)))
+      (hour-accepted file prices collected (bookAt past) (length lent) (sym (gives-number answered) ∙ accepted)))
   is-fund monthEndCall answered accepted = kept .monthFund
   is-fund yearEndCall answered accepted =
       omega (arith, kept .allFund, kept .emptyMonth (year-closed answered accepted) .1)
@@ -78,13 +78,13 @@ module _ (past : List Entry) (entry : Entry)
     (refused : entry .result .refusal ≡ 0 → ⊥) where
   same-book : entry .result .book ≡ bookAt past
   same-book =
-      answered .givesBook
-      ∙ answer-refused _ (bookAfter (entry .call) (bookAt past)) (bookAt past) (λ e. refused (answered .number ∙ e))
+      gives-book answered
+      ∙ answer-refused _ (bookAfter (entry .call) (bookAt past)) (bookAt past) (λ e. refused (gives-number answered ∙ e))
 
   same-lines : entry .written ≡ entry .lent
   same-lines =
-      answered .writesLines
-      ∙ answer-refused _ (lines (entry .call) (bookAt past)) (entry .lent) (λ e. refused (answered .number ∙ e))
+      answered .writes
+      ∙ answer-refused _ (lines (entry .call) (bookAt past)) (entry .lent) (λ e. refused (gives-number answered ∙ e))
 
 kept-next : (past : List Entry) (entry : Entry) → Kept past (bookAt past)
     → Answered (entry .call) (bookAt past) (entry .lent) (entry .result) (entry .written) → Kept (entry ∷ past) (bookAt (entry ∷ past))
@@ -134,13 +134,13 @@ module _ (past : List Entry) (entry : Entry) (kept : Kept past (bookAt past))
   sound-entry =
       record {
         neverSpoiled =
-            λ e. never-1 (entry .call) (bookAt past) (length (entry .lent)) (not-spoiled (bookAt past) (kept .sane)) (sym (answered .number) ∙ e);
+            λ e. never-1 (entry .call) (bookAt past) (length (entry .lent)) (not-spoiled (bookAt past) (kept .sane)) (sym (gives-number answered) ∙ e);
         hours = kept .hours;
         months = kept .months;
         endedAfter = kept .endedAfter;
         endedOnly = kept .endedOnly;
         openBefore = kept .allOwner;
-        byTable = answered .number;
+        byTable = gives-number answered;
         byRules = written-is past entry answered;
         untouched = λ refused. (same-lines past entry answered refused, same-book past entry answered refused);
         shared = shared-out;
@@ -153,17 +153,9 @@ sound-all (entry ∷ past) answered =
 
 -- ---- demand 3
 
--- the book of a ledger, for those who make one
-pub book-at-start : bookAt [] ≡ fresh
-unfolding bookAt
-book-at-start = refl
-
-pub book-at-entry : (entry : Entry) (past : List Entry) → bookAt (entry ∷ past) ≡ entry .result .book
-unfolding bookAt
-book-at-entry entry past = refl
-
-pub claim : (ledger : List Entry) → IsLedger ledger → Claim ledger
-claim ledger answered =
+-- the claim holds of every ledger
+claim-of-ledger : (ledger : List Entry) → IsLedger ledger → Claim ledger
+claim-of-ledger ledger answered =
     record {
       sound = sound-all ledger answered;
       closes = omega (arith, kept .allFund);
@@ -173,3 +165,7 @@ claim ledger answered =
   where
     kept : Kept ledger (bookAt ledger)
     kept = kept-all ledger answered
+
+-- and so, for every list of calls, of the ledger that is worked out from them
+pub claim : (calls : List Asked) → Claim (ledgerOf calls)
+claim calls = claim-of-ledger (ledgerOf calls) (is-ledger calls)

@@ -14,6 +14,7 @@ use Rattle.numbers.proofs.Counts.{listBelow-ext}
 use Rattle.settlement.specs.Events.{fund, demand, lines, bookAfter, refusal, Answered}
 use Rattle.settlement.specs.Ledger.{Entry, bookAt, ifAccepted, atHour, atMonthEnd, atYearEnd, hourCount, monthEndCount, yearEndCount, sumOver, sumSince, callPositive, positiveTarget, lineOf, credit, hourCredit, charge, callAmount, collection, ofAll}
 use Rattle.settlement.proofs.Shares.{paidTo, credit-is}
+use Rattle.settlement.proofs.Refusing.{gives-number, gives-fund, gives-demand, gives-book}
 
 -- ---- sums, one entry further
 
@@ -92,19 +93,19 @@ module _ (past : List Entry) (entry : Entry)
     (answered : Answered (entry .call) (bookAt past) (entry .lent) (entry .result) (entry .written))
     (accepted : entry .result .refusal ≡ 0) where
   pub by-table : refusal (entry .call) (bookAt past) (length (entry .lent)) ≡ 0
-  by-table = sym (answered .number) ∙ accepted
+  by-table = sym (gives-number answered) ∙ accepted
 
   pub written-is : entry .written ≡ lines (entry .call) (bookAt past)
-  written-is = answered .writesLines ∙ answer-accepted _ (lines (entry .call) (bookAt past)) (entry .lent) by-table
+  written-is = answered .writes ∙ answer-accepted _ (lines (entry .call) (bookAt past)) (entry .lent) by-table
 
   pub book-is : entry .result .book ≡ bookAfter (entry .call) (bookAt past)
-  book-is = answered .givesBook ∙ answer-accepted _ (bookAfter (entry .call) (bookAt past)) (bookAt past) by-table
+  book-is = gives-book answered ∙ answer-accepted _ (bookAfter (entry .call) (bookAt past)) (bookAt past) by-table
 
   pub fund-is : entry .result .fund ≡ fund (entry .call) (bookAt past)
-  fund-is = answered .reportsFund ∙ answer-accepted _ (fund (entry .call) (bookAt past)) 0 by-table
+  fund-is = gives-fund answered ∙ answer-accepted _ (fund (entry .call) (bookAt past)) 0 by-table
 
   pub demand-is : entry .result .demand ≡ demand (entry .call) (bookAt past)
-  demand-is = answered .reportsDemand ∙ answer-accepted _ (demand (entry .call) (bookAt past)) 0 by-table
+  demand-is = gives-demand answered ∙ answer-accepted _ (demand (entry .call) (bookAt past)) 0 by-table
 
   line-at : (owner : ℕ) → lineOf entry owner ≡ getD (lines (entry .call) (bookAt past)) owner (pos 0)
   line-at owner = ap (λ (l : List ℤ). getD l owner (pos 0)) written-is

@@ -2,7 +2,6 @@ pub mod Accepted
 pub mod Amounts
 pub mod ClaimHolds
 pub mod EntryParts
-pub mod EveryList
 pub mod HoursAfter
 pub mod Kept
 pub mod KeptHour
@@ -11,6 +10,7 @@ pub mod KeptYear
 pub mod LineSigns
 pub mod NeverStuck
 pub mod NotSpoiled
+pub mod OneLedger
 pub mod Paying
 pub mod Refusing
 pub mod RunLaws

@@ -19,11 +19,12 @@ use Rattle.calendar.proofs.MonthEnds.{within-year}
 use Rattle.target.specs.Target.{isWrongLines}
 use Rattle.settlement.specs.declared.Book.{Book}
 use Rattle.settlement.specs.Events.{Call, hourCall, monthEndCall, yearEndCall, eventOf, isOutOfTurn, isDue, eventRows, ownRows, refusal}
-use Rattle.settlement.specs.Ledger.{Entry, bookAt, IsLedger}
+use Rattle.settlement.specs.Ledger.{Asked, bookAt, ledgerOf}
 use Rattle.settlement.specs.Progress.{dueEvents, GoesOn}
 use Rattle.settlement.proofs.Sane.{Sane, not-spoiled}
 use Rattle.settlement.proofs.Refusing.{own-rows-within}
 use Rattle.settlement.proofs.KeptHour.{still-ahead}
+use Rattle.settlement.proofs.OneLedger.{is-ledger}
 use Rattle.settlement.proofs.ClaimHolds.{kept-all}
 
 -- one event is due, by the three tests that decide: the month's end, the year's hours, the open months
@@ -97,5 +98,5 @@ module _ (book : Book) (sane : Sane book) where
         over = ended-book;
       }
 
-pub goes-on : (ledger : List Entry) → IsLedger ledger → GoesOn (bookAt ledger)
-goes-on ledger answered = sane-goes-on (bookAt ledger) (kept-all ledger answered .sane)
+pub goes-on : (calls : List Asked) → GoesOn (bookAt (ledgerOf calls))
+goes-on calls = sane-goes-on (bookAt (ledgerOf calls)) (kept-all (ledgerOf calls) (is-ledger calls) .sane)

@@ -12,12 +12,14 @@ use lib.ListN.{length}
 use lib.IntN.{ℤ}
 use borrow.Author.Tests.{leb-false, lt-ltb, eqb-true, ltb-true, not-false}
 use Rattle.numbers.specs.Limits.{owners}
-use Rattle.numbers.specs.Refusals.{Row, _if_, firstRefusal}
+use Rattle.numbers.specs.Lists.{IsLowest}
+use Rattle.numbers.specs.Refusals.{Row, _if_, firstRefusal, answerBy}
 use Rattle.numbers.proofs.Refusals.{isWithin, refusal-here, refusal-next, refusal-clear, refusal-append, refusal-rest, refusal-both, refusal-skip, refusal-within, refusal-most, within-append, within-wider, answer-accepted, answer-refused}
 use Rattle.numbers.proofs.Booleans.{both-true, neither-true}
 use Rattle.calendar.specs.Year.{hoursInYear, isMonthEnd}
-use Rattle.rights.specs.Faults.{anyFault, faultRows}
-use Rattle.rights.proofs.Faults.{rows-within, fault-from-rows}
+use Rattle.rights.specs.Layout.{recordCount}
+use Rattle.rights.specs.Faults.{faultAt, anyFault, faultRows}
+use Rattle.rights.proofs.Faults.{rows-within, fault-from-rows, faulty-none, first-faulty}
 use Rattle.target.specs.Target.{isWrongLines, lentRows, targetRefusal}
 use Rattle.target.proofs.Answer.{lent-within, lent-rows}
 use Rattle.settlement.specs.declared.Book.{Book}
@@ -25,7 +27,7 @@ use Rattle.settlement.specs.declared.Event.{Event}
 use Rattle.settlement.specs.declared.Event.the-variants.{Hour}
 use Rattle.settlement.specs.declared.Settled.{Settled}
 use Rattle.settlement.specs.Book.{isSpoiled}
-use Rattle.settlement.specs.Events.{Call, hourCall, monthEndCall, yearEndCall, eventOf, nextTargets, hourCharges, wants, fund, demand, lines, bookAfter, isOutOfTurn, isWildAmount, eventRows, inputRows, sizeRows, ownRows, refusal, namesRecord, Answered}
+use Rattle.settlement.specs.Events.{Call, hourCall, monthEndCall, yearEndCall, eventOf, nextTargets, hourCharges, wants, fund, demand, lines, bookAfter, isOutOfTurn, isWildAmount, eventRows, inputRows, sizeRows, ownRows, refusal, recordOf, Answered}
 
 -- ---- the rows that every event has
 
@@ -188,7 +190,7 @@ module _ (file : List ℕ) (prices : List ℤ) (collected : ℤ) (book : Book) w
       refusal-rest 4 8 (inputRows file prices collected) sizes (omega arith) (input-within file prices collected) clear
 
   -- 7 and 8 come only where some record has the fault
-  pub fault-refused : (places k : ℕ) → 7 ≤ k → k ≤ 8 → refusal call book places ≡ k → anyFault (length prices) file k ≡ true
+  fault-refused : (places k : ℕ) → 7 ≤ k → k ≤ 8 → refusal call book places ≡ k → anyFault (length prices) file k ≡ true
   unfolding inputRows
   fault-refused places k low high is =
       by-early (ℕ-discrete (early call book places) 0)
@@ -233,40 +235,81 @@ never-1 call book places sane is =
     let within = within-wider 4 10 2 10 (ownRows call book) (omega arith) (omega arith) (own-rows-within call book) in
     ⊎-elim (λ none. omega (arith, refusal-next 1 rows sane)) (λ high. omega (arith, refusal-next 1 rows sane)) (refusal-within 2 10 rows within)
 
+-- ---- the record number
+
+-- a refusal below 7 names none
+pub record-none : (call : Call) (number : ℕ) → number < 7 → recordOf call number ≡ 0
+unfolding recordOf
+record-none (hourCall file prices collected) number low = faulty-none (length prices) file number low
+record-none monthEndCall number low = refl
+record-none yearEndCall number low = refl
+
+-- an hour refused with 7 or 8 names "the lowest one with that fault, all earlier records being free of it"
+pub names-first : (file : List ℕ) (prices : List ℤ) (collected : ℤ) (book : Book) (places k : ℕ) → 7 ≤ k → k ≤ 8
+    → refusal (hourCall file prices collected) book places ≡ k
+    → IsLowest (faultAt (length prices) file k) (recordCount file) (recordOf (hourCall file prices collected) k)
+unfolding recordOf
+names-first file prices collected book places k low high is =
+    first-faulty (length prices) file k low high (fault-refused file prices collected book places k low high is)
+
 -- ---- what an event answers
 
 module _ (call : Call) (book : Book) (lent : List ℤ) where
   -- a refused one
   pub refused-answer : (number faulty : ℕ) (result : Settled) → number ≡ refusal call book (length lent) → (number ≡ 0 → ⊥)
-      → namesRecord call number faulty ≡ true
+      → faulty ≡ recordOf call number
       → result ≡ record { refusal = number; faulty = faulty; fund = 0; demand = 0; book = book }
       → Answered call book lent result lent
   refused-answer number faulty result e some names is =
-      rw is
-      (record {
-        number = e;
-        names = names;
-        reportsFund = sym (answer-refused _ _ _ none);
-        reportsDemand = sym (answer-refused _ _ _ none);
-        givesBook = sym (answer-refused _ _ _ none);
-        writesLines = sym (answer-refused _ _ _ none);
-      })
+      record {
+        gives =
+            is
+            ∙ (λ i.
+            record {
+              refusal = e i;
+              faulty = (names ∙ ap (recordOf call) e) i;
+              fund = sym (answer-refused _ (fund call book) 0 none) i;
+              demand = sym (answer-refused _ (demand call book) 0 none) i;
+              book = sym (answer-refused _ (bookAfter call book) book none) i;
+            });
+        writes = sym (answer-refused _ (lines call book) lent none);
+      }
     where
       none : refusal call book (length lent) ≡ 0 → ⊥
       none z = some (e ∙ z)
 
   -- an accepted one
   pub accepted-answer : (result : Settled) (after : List ℤ) → refusal call book (length lent) ≡ 0
-      → namesRecord call 0 0 ≡ true
       → result ≡ record { refusal = 0; faulty = 0; fund = fund call book; demand = demand call book; book = bookAfter call book }
       → after ≡ lines call book → Answered call book lent result after
-  accepted-answer result after z names is written =
-      rw is
-      (record {
-        number = sym z;
-        names = names;
-        reportsFund = sym (answer-accepted _ _ _ z);
-        reportsDemand = sym (answer-accepted _ _ _ z);
-        givesBook = sym (answer-accepted _ _ _ z);
-        writesLines = written ∙ sym (answer-accepted _ _ _ z);
-      })
+  accepted-answer result after z is written =
+      record {
+        gives =
+            is
+            ∙ (λ i.
+            record {
+              refusal = sym z i;
+              faulty = sym (record-none call (refusal call book (length lent)) (omega (arith, z))) i;
+              fund = sym (answer-accepted _ (fund call book) 0 z) i;
+              demand = sym (answer-accepted _ (demand call book) 0 z) i;
+              book = sym (answer-accepted _ (bookAfter call book) book z) i;
+            });
+        writes = written ∙ sym (answer-accepted _ (lines call book) lent z);
+      }
+
+-- the parts of an answer
+module _ {call : Call} {book : Book} {lent : List ℤ} {result : Settled} {after : List ℤ} (answered : Answered call book lent result after) where
+  pub gives-number : result .refusal ≡ refusal call book (length lent)
+  gives-number = ap (λ (r : Settled). r .refusal) (answered .gives)
+
+  pub gives-record : result .faulty ≡ recordOf call (refusal call book (length lent))
+  gives-record = ap (λ (r : Settled). r .faulty) (answered .gives)
+
+  pub gives-fund : result .fund ≡ answerBy (refusal call book (length lent)) (fund call book) 0
+  gives-fund = ap (λ (r : Settled). r .fund) (answered .gives)
+
+  pub gives-demand : result .demand ≡ answerBy (refusal call book (length lent)) (demand call book) 0
+  gives-demand = ap (λ (r : Settled). r .demand) (answered .gives)
+
+  pub gives-book : result .book ≡ answerBy (refusal call book (length lent)) (bookAfter call book) book
+  gives-book = ap (λ (r : Settled). r .book) (answered .gives)

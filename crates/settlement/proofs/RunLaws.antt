@@ -16,7 +16,7 @@ use Rattle.settlement.specs.Ledger.{Entry, bookAt, IsLedger, atHour, yea
 use Rattle.settlement.proofs.Shares.{credit-is}
 use Rattle.settlement.proofs.EntryParts.{by-table, written-is, accepted-parts}
 use Rattle.settlement.proofs.ClaimHolds.{kept-all}
-use Rattle.settlement.proofs.NeverStuck.{goes-on}
+use Rattle.settlement.proofs.NeverStuck.{sane-goes-on}
 
 -- ---- sums
 
@@ -76,5 +76,5 @@ module _ (past : List Entry) (entry : Entry)
       by-count zero is = refl
       by-count (suc n) is =
           let ended = kept-all past ledger .endedOnly (omega arith) in
-          let over = goes-on past ledger .over ended (entry .call) (length (entry .lent)) in
+          let over = sane-goes-on (bookAt past) (kept-all past ledger .sane) .over ended (entry .call) (length (entry .lent)) in
           absurd (omega (arith, over, by-table past entry answered accepted))

@@ -3,7 +3,7 @@
 use Prim.Native.Nat.{ℕ, zero, suc, _+_, _≤_, _<_}
 use mathlib.Core.Path.{_≡_, refl, sym, ap, ap₂, _∙_}
 use mathlib.Core.Bool.{Bool, true, false, cond, not, _||_}
-use mathlib.Core.List.{List, [], _∷_, map}
+use mathlib.Core.List.{List, [], _∷_}
 use native.Mathlib.Nat.{le-refl}
 use native.Mathlib.Numerals.{add-one}
 use native.Mathlib.Omega.{arith}
@@ -16,7 +16,7 @@ use Rattle.numbers.specs.Lists.{total, listBelow}
 use Rattle.numbers.specs.Refusals.{firstRefusal}
 use Rattle.numbers.specs.Signs.{positive, negative}
 use Rattle.numbers.proofs.Counts.{length-listBelow, listBelow-ext}
-use Rattle.numbers.proofs.Refusals.{refusal-none, refusal-next, refusal-rest}
+use Rattle.numbers.proofs.Refusals.{refusal-none, refusal-next, refusal-rest, answer-accepted}
 use Rattle.calendar.specs.Year.{hoursInYear, monthsInYear, monthEnds, isAmong, isMonthEnd, monthOf}
 use Rattle.calendar.proofs.MonthEnds.{month-open, month-ends, month-goes-on, no-month-yet, all-months}
 use Rattle.rights.proofs.Faults.{empty-length, empty-faults, no-faults}
@@ -26,18 +26,17 @@ use Rattle.settlement.specs.declared.Book.{Book}
 use Rattle.settlement.specs.declared.Event.{Event}
 use Rattle.settlement.specs.declared.Event.the-variants.{Hour, MonthEnd, YearEnd}
 use Rattle.settlement.specs.Book.{fresh, allShortfalls}
-use Rattle.settlement.specs.Events.{Call, hourCall, monthEndCall, yearEndCall, nextTargets, targetOf, hourWants, hourCharges, wants, fund, paid, unpaidOf, hourBook, bookAfter, isOutOfTurn, isDue, isWildAmount, inputRows, sizeRows, ownRows, refusal, Answered}
-use Rattle.settlement.specs.Ledger.{Entry, Asked, asked, bookAt, IsLedger}
+use Rattle.settlement.specs.Events.{Call, hourCall, monthEndCall, yearEndCall, nextTargets, targetOf, hourWants, hourCharges, wants, fund, paid, unpaidOf, hourBook, bookAfter, isOutOfTurn, isDue, isWildAmount, inputRows, sizeRows, ownRows, refusal}
+use Rattle.settlement.specs.Ledger.{Asked, bookAt, ledgerOf}
 use Rattle.settlement.specs.WholeYear.{YearInput, IsLegal, hourAsked, monthAsked, yearAsked, callsTo, yearCalls, AllAccepted, IsWholeYear}
 use Rattle.settlement.proofs.Sane.{Sane}
 use Rattle.settlement.proofs.Shares.{IsLong, wants-long}
 use Rattle.settlement.proofs.Paying.{unpaid-small, added-total}
 use Rattle.settlement.proofs.SharingOut.{all-within}
 use Rattle.settlement.proofs.Refusing.{own-size}
-use Rattle.settlement.proofs.EntryParts.{book-is}
 use Rattle.settlement.proofs.Kept.{Kept}
 use Rattle.settlement.proofs.ClaimHolds.{kept-all}
-use Rattle.settlement.proofs.EveryList.{every-list}
+use Rattle.settlement.proofs.OneLedger.{is-ledger}
 use Rattle.settlement.proofs.NeverStuck.{due-own}
 
 -- ---- an hour without rights
@@ -88,24 +87,6 @@ module _ (prices : List ℤ) (collected : ℤ) (book : Book) (sane : Sane book) 
 
 -- ---- the calls of a year
 
--- a call that the rules accept is accepted, and gives the book of the rules
-record Taken (past : List Entry) (entry : Entry) (call : Call) : Type 0 where
-  accepted : entry .result .refusal ≡ 0
-  after : entry .result .book ≡ bookAfter call (bookAt past)
-
-taken : (past : List Entry) (entry : Entry) (ask : Asked) → asked entry ≡ ask
-    → Answered (entry .call) (bookAt past) (entry .lent) (entry .result) (entry .written)
-    → refusal (ask .call) (bookAt past) (length (ask .lent)) ≡ 0 → Taken past entry (ask .call)
-taken past entry ask is answered clear =
-    record {
-      accepted = zero-number;
-      after = book-is past entry answered zero-number ∙ ap (λ (a : Asked). bookAfter (a .call) (bookAt past)) is;
-    }
-  where
-    zero-number : entry .result .refusal ≡ 0
-    zero-number =
-        answered .number ∙ ap (λ (a : Asked). refusal (a .call) (bookAt past) (length (a .lent))) is ∙ clear
-
 -- where a book stands
 record Stands (book : Book) (settled closed : ℕ) : Type 0 where
   hours : book .hours ≡ settled
@@ -135,109 +116,121 @@ module _ (book : Book) where
   unfolding isOutOfTurn
   year-due at = due YearEnd (at .still-open) (ap (λ (m : ℕ). ltb m monthsInYear) (at .months))
 
-module _ (year : YearInput) (legal : IsLegal year) (past : List Entry) (entry : Entry)
-    (answered : Answered (entry .call) (bookAt past) (entry .lent) (entry .result) (entry .written)) (kept : Kept past (bookAt past)) where
-  hour-taken : (hour : ℕ) → hour < hoursInYear → Stands (bookAt past) hour (monthOf hour) → asked entry ≡ hourAsked year hour
-      → (entry .result .refusal ≡ 0) × Stands (entry .result .book) (suc hour) (monthOf hour)
-  unfolding bookAfter
-  hour-taken hour inside at is =
+-- the book after a list of calls
+abbrev bookOf : List Asked → Book
+bookOf calls = bookAt (ledgerOf calls)
+
+-- a call more that the rules accept: it gives the book of the rules
+book-next : (before : List Asked) (call : Asked) → refusal (call .call) (bookOf before) (length (call .lent)) ≡ 0
+    → bookOf (call ∷ before) ≡ bookAfter (call .call) (bookOf before)
+unfolding ledgerOf bookAt
+book-next before call clear = answer-accepted _ (bookAfter (call .call) (bookOf before)) (bookOf before) clear
+
+module _ (year : YearInput) (legal : IsLegal year) (before : List Asked) where
+  kept : Kept (ledgerOf before) (bookOf before)
+  kept = kept-all (ledgerOf before) (is-ledger before)
+
+  hour-clear : (hour : ℕ) → hour < hoursInYear → Stands (bookOf before) hour (monthOf hour)
+      → refusal (hourAsked year hour .call) (bookOf before) (length (year .hourLines hour)) ≡ 0
+  hour-clear hour inside at =
       let prices = year .prices hour in
       let collected = year .collected hour in
-      let book = bookAt past in
+      let book = bookOf before in
       let lent = lent-accepted [] prices (legal .priced hour inside) empty-length (legal .calm hour inside) in
       let clear = clean prices collected book (kept .sane) (kept .long) (legal .amount hour inside) lent in
-      let number = due-own book (kept .sane) (hourCall [] prices collected) (length (year .hourLines hour)) (hour-due book hour inside at) (legal .hourLong hour inside)
+      due-own book (kept .sane) (hourCall [] prices collected) (length (year .hourLines hour)) (hour-due book hour inside at) (legal .hourLong hour inside)
       ∙ own-size [] prices collected book clear
-      ∙ fits prices collected book (kept .sane) (kept .long) in
-      let step = taken past entry (hourAsked year hour) is answered number in (
-        step .accepted,
-        record {
-          hours = ap (λ (b : Book). b .hours) (step .after) ∙ ap (_+ 1) (at .hours) ∙ add-one hour;
-          months = ap (λ (b : Book). b .months) (step .after) ∙ at .months;
-          still-open = ap (λ (b : Book). b .ended) (step .after) ∙ at .still-open;
-        },
-      )
+      ∙ fits prices collected book (kept .sane) (kept .long)
 
-  month-taken : (hour : ℕ) → hour < hoursInYear → isAmong (suc hour) monthEnds ≡ true → Stands (bookAt past) (suc hour) (monthOf hour)
-      → asked entry ≡ monthAsked year hour → (entry .result .refusal ≡ 0) × Stands (entry .result .book) (suc hour) (monthOf (suc hour))
-  unfolding bookAfter ownRows
-  month-taken hour inside among at is =
-      let number = due-own (bookAt past) (kept .sane) monthEndCall _ (month-due (bookAt past) hour among at) (legal .monthLong hour inside) ∙ refusal-none in
-      let step = taken past entry (monthAsked year hour) is answered number in (
-        step .accepted,
-        record {
-          hours = ap (λ (b : Book). b .hours) (step .after) ∙ at .hours;
-          months = ap (λ (b : Book). b .months) (step .after) ∙ ap (_+ 1) (at .months) ∙ sym (month-ends hour among .1);
-          still-open = ap (λ (b : Book). b .ended) (step .after) ∙ at .still-open;
-        },
-      )
+  after-hour : (hour : ℕ) → hour < hoursInYear → Stands (bookOf before) hour (monthOf hour)
+      → Stands (bookOf (hourAsked year hour ∷ before)) (suc hour) (monthOf hour)
+  unfolding bookAfter
+  after-hour hour inside at =
+      let after = book-next before (hourAsked year hour) (hour-clear hour inside at) in
+      record {
+        hours = ap (λ (b : Book). b .hours) after ∙ ap (_+ 1) (at .hours) ∙ add-one hour;
+        months = ap (λ (b : Book). b .months) after ∙ at .months;
+        still-open = ap (λ (b : Book). b .ended) after ∙ at .still-open;
+      }
 
-  year-taken : Stands (bookAt past) hoursInYear monthsInYear → asked entry ≡ yearAsked year
-      → (entry .result .refusal ≡ 0) × (entry .result .book .ended ≡ true) × (entry .result .book .hours ≡ hoursInYear) × (entry .result .book .months ≡ monthsInYear)
-  unfolding bookAfter ownRows
-  year-taken at is =
-      let number = due-own (bookAt past) (kept .sane) yearEndCall _ (year-due (bookAt past) at) (legal .yearLong) ∙ refusal-none in
-      let step = taken past entry (yearAsked year) is answered number in (
-        step .accepted,
-        ap (λ (b : Book). b .ended) (step .after),
-        ap (λ (b : Book). b .hours) (step .after) ∙ at .hours,
-        ap (λ (b : Book). b .months) (step .after) ∙ at .months,
-      )
+  month-clear : (hour : ℕ) → hour < hoursInYear → isAmong (suc hour) monthEnds ≡ true → Stands (bookOf before) (suc hour) (monthOf hour)
+      → refusal monthEndCall (bookOf before) (length (year .monthLines hour)) ≡ 0
+  unfolding ownRows
+  month-clear hour inside among at =
+      due-own (bookOf before) (kept .sane) monthEndCall _ (month-due (bookOf before) hour among at) (legal .monthLong hour inside) ∙ refusal-none
+
+  after-month : (hour : ℕ) → hour < hoursInYear → isAmong (suc hour) monthEnds ≡ true → Stands (bookOf before) (suc hour) (monthOf hour)
+      → Stands (bookOf (monthAsked year hour ∷ before)) (suc hour) (monthOf (suc hour))
+  unfolding bookAfter
+  after-month hour inside among at =
+      let after = book-next before (monthAsked year hour) (month-clear hour inside among at) in
+      record {
+        hours = ap (λ (b : Book). b .hours) after ∙ at .hours;
+        months = ap (λ (b : Book). b .months) after ∙ ap (_+ 1) (at .months) ∙ sym (month-ends hour among .1);
+        still-open = ap (λ (b : Book). b .ended) after ∙ at .still-open;
+      }
+
+  year-clear : Stands (bookOf before) hoursInYear monthsInYear → refusal yearEndCall (bookOf before) (length (year .yearLines)) ≡ 0
+  unfolding ownRows
+  year-clear at =
+      due-own (bookOf before) (kept .sane) yearEndCall _ (year-due (bookOf before) at) (legal .yearLong) ∙ refusal-none
 
 -- ---- hour after hour
 
--- the calls of the first hours are all accepted, and the book stands behind them
-abbrev Settles : List Entry → ℕ → Type 0
-Settles ledger hour = AllAccepted ledger × Stands (bookAt ledger) hour (monthOf hour)
+-- all calls are accepted, and the book stands behind so many hours
+abbrev Settles : List Asked → ℕ → Type 0
+Settles calls hour = AllAccepted (ledgerOf calls) × Stands (bookOf calls) hour (monthOf hour)
 
 module _ (year : YearInput) (legal : IsLegal year) where
-  one-hour : (hour : ℕ) → hour < hoursInYear → ((past : List Entry) → IsLedger past → map asked past ≡ callsTo year hour → Settles past hour)
-      → (test : Bool) → isAmong (suc hour) monthEnds ≡ test → (ledger : List Entry) → IsLedger ledger
-      → map asked ledger ≡ cond test (monthAsked year hour ∷ hourAsked year hour ∷ callsTo year hour) (hourAsked year hour ∷ callsTo year hour)
-      → Settles ledger (suc hour)
-  unfolding bookAt
-  one-hour hour inside earlier false e [] answered is = let z : _≡_ {A = ℕ} 0 1 = cc in absurd (omega arith)
-  one-hour hour inside earlier false e (entry ∷ past) answered is =
-      let before = earlier past (answered .1) (cc) in
-      let now = hour-taken year legal past entry (answered .0) (kept-all past (answered .1)) hour inside (before .1) (cc) in
-      let stand = now .1 in (
-        (now .0, before .0),
-        record { hours = stand .hours; months = stand .months ∙ sym (month-goes-on hour e); still-open = stand .still-open },
+  -- an hour more, and the month end behind it
+  one-hour : (before : List Asked) (hour : ℕ) → hour < hoursInYear → Settles before hour → (test : Bool) → isAmong (suc hour) monthEnds ≡ test
+      → Settles (cond test (monthAsked year hour ∷ hourAsked year hour ∷ before) (hourAsked year hour ∷ before)) (suc hour)
+  unfolding ledgerOf
+  one-hour before hour inside earlier false e =
+      let stands = after-hour year legal before hour inside (earlier .1) in (
+        (hour-clear year legal before hour inside (earlier .1), earlier .0),
+        record { hours = stands .hours; months = stands .months ∙ sym (month-goes-on hour e); still-open = stands .still-open },
       )
-  one-hour hour inside earlier true e [] answered is = let z : _≡_ {A = ℕ} 0 1 = cc in absurd (omega arith)
-  one-hour hour inside earlier true e (entry ∷ []) answered is = let z : _≡_ {A = ℕ} 0 1 = cc in absurd (omega arith)
-  one-hour hour inside earlier true e (closing ∷ entry ∷ past) answered is =
-      let below = answered .1 in
-      let before = earlier past (below .1) (cc) in
-      let now = hour-taken year legal past entry (below .0) (kept-all past (below .1)) hour inside (before .1) (cc) in
-      let after = month-taken year legal (entry ∷ past) closing (answered .0) (kept-all (entry ∷ past) below) hour inside e (now .1) (cc) in
-      ((after .0, (now .0, before .0)), after .1)
+  one-hour before hour inside earlier true e =
+      let calls = hourAsked year hour ∷ before in
+      let stands = after-hour year legal before hour inside (earlier .1) in (
+        (
+          month-clear year legal calls hour inside e stands,
+          (hour-clear year legal before hour inside (earlier .1), earlier .0),
+        ),
+        after-month year legal calls hour inside e stands,
+      )
 
-  hours-settle : (hour : ℕ) → hour ≤ hoursInYear → (ledger : List Entry) → IsLedger ledger → map asked ledger ≡ callsTo year hour
-      → Settles ledger hour
-  unfolding callsTo bookAt fresh
-  hours-settle zero within [] answered is = (tt, record { hours = refl; months = sym no-month-yet; still-open = refl })
-  hours-settle zero within (entry ∷ past) answered is = let z : _≡_ {A = ℕ} 0 1 = cc in absurd (omega arith)
-  hours-settle (suc hour) within ledger answered is =
-      one-hour hour (omega arith) (λ past. hours-settle hour (omega arith) past) (isAmong (suc hour) monthEnds) refl ledger answered is
+  hours-settle : (hour : ℕ) → hour ≤ hoursInYear → Settles (callsTo year hour) hour
+  unfolding callsTo ledgerOf bookAt fresh
+  hours-settle zero within = (tt, record { hours = refl; months = sym no-month-yet; still-open = refl })
+  hours-settle (suc hour) within =
+      one-hour (callsTo year hour) hour (omega arith) (hours-settle hour (omega arith)) (isAmong (suc hour) monthEnds) refl
 
-  pub whole-year : (ledger : List Entry) → IsLedger ledger → map asked ledger ≡ yearCalls year → IsWholeYear ledger
-  unfolding yearCalls bookAt
-  whole-year [] answered is = let z : _≡_ {A = ℕ} 0 1 = cc in absurd (omega arith)
-  whole-year (entry ∷ past) answered is =
-      let before = hours-settle hoursInYear (le-refl hoursInYear) past (answered .1) (cc) in
-      let at = before .1 in
-      let closed : Stands (bookAt past) hoursInYear monthsInYear = record { hours = at .hours; months = at .months ∙ all-months; still-open = at .still-open } in
-      let last = year-taken year legal past entry (answered .0) (kept-all past (answered .1)) closed (cc) in
-      let kept = kept-all (entry ∷ past) answered in
+  pub whole-year : IsWholeYear (ledgerOf (yearCalls year))
+  unfolding yearCalls bookAfter
+  whole-year =
       record {
-        accepted = (last .0, before .0);
-        hours = sym (kept .hours) ∙ last .2;
-        months = sym (kept .months) ∙ last .3;
-        ended = kept .endedAfter (last .1);
+        accepted = unfold ledgerOf in (number, before .0);
+        hours = sym (kept-year .hours) ∙ ap (λ (b : Book). b .hours) after ∙ closed .hours;
+        months = sym (kept-year .months) ∙ ap (λ (b : Book). b .months) after ∙ closed .months;
+        ended = kept-year .endedAfter (ap (λ (b : Book). b .ended) after);
       }
+    where
+      hours : List Asked
+      hours = callsTo year hoursInYear
 
-  -- and there is such a year
-  pub a-whole-year : (ledger : List Entry) × IsLedger ledger × IsWholeYear ledger
-  a-whole-year =
-      let made = every-list (yearCalls year) in (made .0, made .1, whole-year (made .0) (made .1) (made .2))
+      before : Settles hours hoursInYear
+      before = hours-settle hoursInYear (le-refl hoursInYear)
+
+      closed : Stands (bookOf hours) hoursInYear monthsInYear
+      closed = record { hours = before .1 .hours; months = before .1 .months ∙ all-months; still-open = before .1 .still-open }
+
+      number : refusal yearEndCall (bookOf hours) (length (year .yearLines)) ≡ 0
+      number = year-clear year legal hours closed
+
+      after : bookOf (yearAsked year ∷ hours) ≡ bookAfter yearEndCall (bookOf hours)
+      after = book-next hours (yearAsked year) number
+
+      kept-year : Kept (ledgerOf (yearAsked year ∷ hours)) (bookOf (yearAsked year ∷ hours))
+      kept-year = kept-all (ledgerOf (yearAsked year ∷ hours)) (is-ledger (yearAsked year ∷ hours))

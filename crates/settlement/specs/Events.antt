@@ -13,7 +13,7 @@ use Rattle.numbers.specs.Lists.{total, listBelow}
 use Rattle.numbers.specs.Refusals.{Row, _if_, firstRefusal, answerBy}
 use Rattle.numbers.specs.Signs.{positive, negative}
 use Rattle.calendar.specs.Year.{hoursInYear, monthsInYear, isMonthEnd}
-use Rattle.rights.specs.Faults.{faultRows, namesFault}
+use Rattle.rights.specs.Faults.{faultRows, faultyRecord}
 use Rattle.split.specs.Split.{payments, left}
 use Rattle.target.specs.Target.{isWrongLines, lentRows, targets}
 use Rattle.settlement.specs.declared.Book.{Book}
@@ -207,18 +207,31 @@ ownRows yearEndCall book = []
 unfoldable pub refusal : Call → Book → ℕ → ℕ
 refusal call book places = firstRefusal (eventRows (eventOf call) book places ++ ownRows call book)
 
--- the record number of a result: 0, except in an hour's 7 and 8, where it names a record with the fault
-unfoldable pub namesRecord : Call → ℕ → ℕ → Bool
-namesRecord (hourCall file prices collected) number faulty = namesFault (length prices) file number faulty
-namesRecord monthEndCall number faulty = eqb faulty 0
-namesRecord yearEndCall number faulty = eqb faulty 0
+-- the record number of a result: in an hour's 7 and 8 "the lowest one with that fault" (Wish 3), else 0
+unfoldable pub recordOf : Call → ℕ → ℕ
+recordOf (hourCall file prices collected) number = faultyRecord (length prices) file number
+recordOf monthEndCall number = 0
+recordOf yearEndCall number = 0
 
--- what an event promises: the result, and the lines after it, for any book and any lent lines. Accepted: F, D, the lines and the
--- book of the rules. Refused: "the book is the one given, F and D are 0", and the lines are as they were
+-- ---- what an event gives, for any book and any lent lines
+
+-- "the refusal number (0 if accepted), a record number, F, D and the book; when refused, the book is the one given, F and D are 0, and the
+-- record number is 0 except in 7 and 8"
+abbrev pub settled : Call → Book → ℕ → Settled
+settled call book places =
+    record {
+      refusal = refusal call book places;
+      faulty = recordOf call (refusal call book places);
+      fund = answerBy (refusal call book places) (fund call book) 0;
+      demand = answerBy (refusal call book places) (demand call book) 0;
+      book = answerBy (refusal call book places) (bookAfter call book) book;
+    }
+
+-- "Lent lines .. stay untouched by a refusal"
+abbrev pub linesAfter : Call → Book → List ℤ → List ℤ
+linesAfter call book lent = answerBy (refusal call book (length lent)) (lines call book) lent
+
+-- what an event promises: its result, and the lent lines after it
 pub record Answered (call : Call) (book : Book) (lent : List ℤ) (result : Settled) (after : List ℤ) : Type 0 where
-  pub number : result .refusal ≡ refusal call book (length lent)
-  pub names : namesRecord call (result .refusal) (result .faulty) ≡ true
-  pub reportsFund : result .fund ≡ answerBy (refusal call book (length lent)) (fund call book) 0
-  pub reportsDemand : result .demand ≡ answerBy (refusal call book (length lent)) (demand call book) 0
-  pub givesBook : result .book ≡ answerBy (refusal call book (length lent)) (bookAfter call book) book
-  pub writesLines : after ≡ answerBy (refusal call book (length lent)) (lines call book) lent
+  pub gives : result ≡ settled call book (length lent)
+  pub writes : after ≡ linesAfter call book lent

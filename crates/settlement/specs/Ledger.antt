@@ -1,8 +1,8 @@
--- A ledger: a list of answered calls, and what is read from its calls and the lines written.
+-- The ledger of a list of calls, and what is read from its calls and the lines written.
 -- Assumes nothing.
 use Prim.Native.Nat.{ℕ, _+_}
 use mathlib.Core.List.{List, [], _∷_}
-use lib.ListN.{getD}
+use lib.ListN.{length, getD}
 use lib.IntN.{ℤ, pos}
 use Rattle.numbers.specs.Limits.{owners}
 use Rattle.numbers.specs.Lists.{total, listBelow}
@@ -12,7 +12,7 @@ use Rattle.target.specs.Target.{target}
 use Rattle.settlement.specs.declared.Book.{Book}
 use Rattle.settlement.specs.declared.Settled.{Settled}
 use Rattle.settlement.specs.Book.{fresh}
-use Rattle.settlement.specs.Events.{Call, hourCall, monthEndCall, yearEndCall, Answered}
+use Rattle.settlement.specs.Events.{Call, hourCall, monthEndCall, yearEndCall, settled, linesAfter, Answered}
 
 -- an entry: a call, the lines lent with it, its result, and the lines after it
 pub record Entry : Type 0 where
@@ -34,6 +34,21 @@ asked entry = record { call = entry .call; lent = entry .lent }
 unfoldable pub bookAt : List Entry → Book
 bookAt [] = fresh
 bookAt (entry ∷ past) = entry .result .book
+
+-- the entry that a call makes on a book, by the events' definitions alone
+abbrev pub entryOn : Book → Asked → Entry
+entryOn book asked =
+    record {
+      call = asked .call;
+      lent = asked .lent;
+      result = settled (asked .call) book (length (asked .lent));
+      written = linesAfter (asked .call) book (asked .lent);
+    }
+
+-- the ledger of a list of calls, newest first, from a fresh book
+unfoldable pub ledgerOf : List Asked → List Entry
+ledgerOf [] = []
+ledgerOf (asked ∷ before) = entryOn (bookAt (ledgerOf before)) asked ∷ ledgerOf before
 
 -- a ledger: each entry is answered, as the events' contracts say, on the book that the entries below it gave
 abbrev pub IsLedger : List Entry → Type 0

@@ -7,7 +7,7 @@ ghost use lib.ListN.{length};
 ghost use Rattle.numbers.specs.Limits.{owners};
 ghost use Rattle.numbers.specs.Refusals.{firstRefusal};
 ghost use Rattle.calendar.specs.Year.{hoursInYear};
-ghost use Rattle.rights.specs.Faults.{namesFault};
+ghost use Rattle.rights.specs.Faults.{faultyRecord};
 ghost use Rattle.target.specs.Target.{targets};
 ghost use Rattle.settlement.specs.Book.{fresh as freshBook};
 ghost use Rattle.settlement.specs.Events.{hourCall, monthEndCall, yearEndCall, inputRows, isDue, Answered};
@@ -184,7 +184,7 @@ fn hour_targets(
     requires { ⌜ hour < hoursInYear ⌝ }
     requires { ⌜ length (now lines) ≡ owners ⌝ }
     ensures { λ r. ⌜ r .refusal ≡ firstRefusal (inputRows (now (rights .entry)) (now (prices .entry)) collected) ⌝ }
-    ensures { λ r. ⌜ namesFault (length (now (prices .entry))) (now (rights .entry)) (r .refusal) (r .faulty) ≡ true ⌝ }
+    ensures { λ r. ⌜ r .faulty ≡ faultyRecord (length (now (prices .entry))) (now (rights .entry)) (r .refusal) ⌝ }
     ensures { λ r. ⌜ (r .refusal ≡ 0 → now (lines .exit) ≡ targets (now (rights .entry)) (now (prices .entry)) hour) ⌝ }
 {
     let outcome = target::targets(rights, prices, hour, lines);

@@ -12,7 +12,8 @@ use Rattle.numbers.specs.Refusals.{answerBy}
 use Rattle.numbers.proofs.Refusals.{answer-accepted, answer-refused}
 use Rattle.settlement.specs.declared.Book.{Book}
 use Rattle.settlement.specs.declared.Settled.{Settled}
-use Rattle.settlement.specs.Events.{Call, eventOf, isDue, refusal, lines, bookAfter, Answered}
+use Rattle.settlement.specs.Events.{Call, eventOf, isDue, refusal, recordOf, lines, bookAfter, Answered}
+use Rattle.settlement.proofs.Refusing.{gives-number, gives-record, gives-book}
 use Rattle.statement_text.specs.Buffer.{written, endAfter, textAfter}
 use Rattle.statement_text.specs.InnerContracts.{Wrote}
 use Rattle.statement_text.specs.Text.{Line, textOf, eventLines, eventRoom}
@@ -21,8 +22,8 @@ use Rattle.statement_text.proofs.Pieces.{wrote-nothing, wrote-then, wrote-as}
 use Rattle.statement_text.proofs.Room.{with-room}
 use Rattle.settlement_run.specs.declared.Run.{Run}
 use Rattle.settlement_run.specs.Run.{Part, goesOn, stops, andThen, tagOf, numberOf, askedOf, eventPart, ifDue}
-use Rattle.settlement_run.specs.Calls.{standing, StandsAt}
-use Rattle.settlement_run.specs.InnerContracts.{Appended, resultPart, refusedBy}
+use Rattle.settlement_run.specs.Calls.{standing, runAt}
+use Rattle.settlement_run.specs.InnerContracts.{ending, Appended, resultPart, refusedBy}
 use Rattle.settlement_run.proofs.Parts.{then-goes, then-stops}
 
 -- with the room that a call asks for, its text is written
@@ -36,39 +37,13 @@ wrote-with-room room text before at after end enough ends buffer =
 
 pub record SameEnd (one two : Part) : Type 0 where
   pub printed : one .printed ≡ two .printed
-  pub refusal : one .refusal ≡ two .refusal
-  pub tag : one .tag ≡ two .tag
-  pub number : one .number ≡ two .number
-  pub book : one .book ≡ two .book
+  pub ends : ending one ≡ ending two
 
 pub same-end : {one two : Part} → one ≡ two → SameEnd one two
-same-end e =
-    record {
-      printed = ap (λ (p : Part). p .printed) e;
-      refusal = ap (λ (p : Part). p .refusal) e;
-      tag = ap (λ (p : Part). p .tag) e;
-      number = ap (λ (p : Part). p .number) e;
-      book = ap (λ (p : Part). p .book) e;
-    }
+same-end e = record { printed = ap (λ (p : Part). p .printed) e; ends = ap ending e }
 
 pub same-then : {one two three : Part} → SameEnd one two → SameEnd two three → SameEnd one three
-same-then first second =
-    record {
-      printed = first .printed ∙ second .printed;
-      refusal = first .refusal ∙ second .refusal;
-      tag = first .tag ∙ second .tag;
-      number = first .number ∙ second .number;
-      book = first .book ∙ second .book;
-    }
-
-pub stands-as : {one two : Part} {run : Run} → SameEnd one two → StandsAt one run → StandsAt two run
-stands-as same stands =
-    record {
-      refusal = stands .refusal ∙ same .refusal;
-      tag = stands .tag ∙ same .tag;
-      number = stands .number ∙ same .number;
-      book = stands .book ∙ same .book;
-    }
+same-then first second = record { printed = first .printed ∙ second .printed; ends = first .ends ∙ second .ends }
 
 pub appended-as : {one two : Part} {run result : Run} {before after : List ℕ} → SameEnd one two
     → Appended one run before result after → Appended two run before result after
@@ -77,50 +52,24 @@ appended-as same made =
       full = made .full;
       wrote = wrote-as (ap textOf (same .printed)) (made .wrote);
       short = made .short;
-      stands = stands-as same (made .stands);
+      stands = made .stands ∙ same .ends;
     }
 
 -- a part's lines are written up to an end, and the run is told as a whole
-pub appended-told : (part : Part) (run : Run) {before after : List ℕ} {end faulty : ℕ} {result : Run}
+pub appended-told : (part : Part) (run : Run) {before after : List ℕ} {end : ℕ} {result : Run}
     → Wrote (textOf (part .printed)) before (run .end) after end → end ≤ run .end + eventRoom owners
-    → result
-    ≡ record {
-      full = run .full;
-      end = end;
-      refusal = part .refusal;
-      tag = part .tag;
-      number = part .number;
-      faulty = faulty;
-      book = part .book;
-    }
-    → Appended part run before result after
+    → result ≡ runAt part (run .full) end → Appended part run before result after
 appended-told part run {before} {after} {end} wrote short told =
     record {
       full = ap (λ (r : Run). r .full) told;
       wrote = subst (λ (n : ℕ). Wrote (textOf (part .printed)) before (run .end) after n) (sym (ap (λ (r : Run). r .end) told)) wrote;
       short = subst (λ (n : ℕ). n ≤ run .end + eventRoom owners) (sym (ap (λ (r : Run). r .end) told)) short;
-      stands =
-          record {
-            refusal = ap (λ (r : Run). r .refusal) told;
-            tag = ap (λ (r : Run). r .tag) told;
-            number = ap (λ (r : Run). r .number) told;
-            book = ap (λ (r : Run). r .book) told;
-          };
+      stands = ap standing told;
     }
 
 -- nothing is printed
-pub appended-nothing : (part : Part) (run : Run) (before : List ℕ) {faulty : ℕ} {result : Run} → part .printed ≡ []
-    → result
-    ≡ record {
-      full = run .full;
-      end = run .end;
-      refusal = part .refusal;
-      tag = part .tag;
-      number = part .number;
-      faulty = faulty;
-      book = part .book;
-    }
-    → Appended part run before result before
+pub appended-nothing : (part : Part) (run : Run) (before : List ℕ) {result : Run} → part .printed ≡ []
+    → result ≡ runAt part (run .full) (run .end) → Appended part run before result before
 appended-nothing part run before none told =
     appended-told part run (wrote-as (sym (ap textOf none ∙ text-none)) (wrote-nothing before (run .end))) (omega arith) told
 
@@ -138,25 +87,26 @@ module _ (call : Call) (book : Book) (settled : Settled) (lent cents : List ℤ)
   abbrev printed-by : List ℤ → List Line
   printed-by given = eventLines (tagOf call) (numberOf call book) given
 
-  by-number : (number : ℕ) → settled .refusal ≡ number → settled .book ≡ answerBy number (bookAfter call book) book
-      → cents ≡ answerBy number (lines call book) lent
+  by-number : (number : ℕ) → settled .refusal ≡ number → settled .faulty ≡ recordOf call number
+      → settled .book ≡ answerBy number (bookAfter call book) book → cents ≡ answerBy number (lines call book) lent
       → SameEnd (resultPart (tagOf call) (numberOf call book) settled cents)
-      (answerBy number (goesOn (askedOf call ∷ []) (printed-by (lines call book)) (bookAfter call book)) (stops (askedOf call ∷ []) number (tagOf call) (numberOf call book) book))
-  by-number zero is gives writes =
+      (answerBy number (goesOn (askedOf call ∷ []) (printed-by (lines call book)) (bookAfter call book)) (stops (askedOf call ∷ []) number (tagOf call) (numberOf call book) (recordOf call number) book))
+  by-number zero is names gives writes =
       same-then (same-end (answer-accepted (settled .refusal) _ _ is))
-      (record { printed = ap printed-by writes; refusal = refl; tag = refl; number = refl; book = gives })
-  by-number (suc n) is gives writes =
+      (record { printed = ap printed-by writes; ends = λ i. stops [] 0 0 0 0 (gives i) })
+  by-number (suc n) is names gives writes =
       same-then (same-end (answer-refused (settled .refusal) _ _ (λ zero. omega (arith, is, zero))))
-      (record { printed = refl; refusal = is; tag = refl; number = refl; book = gives })
+      (record { printed = refl; ends = λ i. stops [] (is i) (tagOf call) (numberOf call book) (names i) (gives i) })
 
   pub event-ends : Answered call book lent settled cents → length lent ≡ owners
       → SameEnd (resultPart (tagOf call) (numberOf call book) settled cents) (eventPart call book)
   unfolding eventPart
   event-ends answered all =
       let places = ap (refusal call book) all in
-      by-number (refusal call book owners) (answered .number ∙ places)
-      (answered .givesBook ∙ ap (λ (n : ℕ). answerBy n (bookAfter call book) book) places)
-      (answered .writesLines ∙ ap (λ (n : ℕ). answerBy n (lines call book) lent) places)
+      by-number (refusal call book owners) (gives-number answered ∙ places)
+      (gives-record answered ∙ ap (recordOf call) places)
+      (gives-book answered ∙ ap (λ (n : ℕ). answerBy n (bookAfter call book) book) places)
+      (answered .writes ∙ ap (λ (n : ℕ). answerBy n (lines call book) lent) places)
 
 -- ---- a month end or a year end, where it is due
 
@@ -170,8 +120,7 @@ appended-stopped run next before stopped =
 -- a run that goes on ends as the next part does
 pub same-next : (run : Run) (next : Book → Part) → run .refusal ≡ 0 → SameEnd (next (run .book)) (andThen (standing run) next)
 same-next run next goes =
-    same-then (record { printed = refl; refusal = refl; tag = refl; number = refl; book = refl })
-    (same-end (sym (then-goes (standing run) next goes)))
+    same-then (record { printed = refl; ends = refl }) (same-end (sym (then-goes (standing run) next goes)))
 
 module _ (call : Call) (run : Run) (before : List ℕ) (goes : run .refusal ≡ 0) where
   pub not-due : isDue (eventOf call) (run .book) ≡ false → {result : Run} → result ≡ refusedBy run 0 0 0 0

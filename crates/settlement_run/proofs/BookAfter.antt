@@ -13,7 +13,7 @@ use Rattle.settlement.specs.Events.{Call, hourCall, monthEndCall, yearEndCall, 
 use Rattle.hour_block.specs.Block.{amountIn, pricesIn, decodeRefusal}
 use Rattle.settlement_run.specs.declared.Run.{Run}
 use Rattle.settlement_run.specs.Run.{Part, goesOn, andThen, eventPart, ifDue, hourPart, stepPart}
-use Rattle.settlement_run.specs.Calls.{standing, stepped, Steps}
+use Rattle.settlement_run.specs.Calls.{stepRoom, lacksRoom, standing, stepped, steppedRun}
 use Rattle.settlement_run.proofs.Parts.{then-goes, then-stops}
 
 module _ (P : Book → Type 0)
@@ -67,10 +67,10 @@ module _ (P : Book → Type 0)
     stepped-keeps : (run : Run) → P (run .book) → P (stepped file block run .book)
     stepped-keeps run holds = then-keeps (standing run) (stepPart file block) holds part-keeps
 
-  pub steps-keep : {file block before after : List ℕ} {run result : Run} → Steps file block run before result after
+  pub steps-keep : (file block : List ℕ) (run : Run) (before : List ℕ) {result : Run} → result ≡ steppedRun file block run before
       → P (run .book) → P (result .book)
-  steps-keep {file} {block} {run = run} {result = result} steps holds =
-      subst P (sym (steps .stands .book)) (by-room (result .full))
+  steps-keep file block run before is holds =
+      subst (λ (r : Run). P (r .book)) (sym is) (by-room (lacksRoom stepRoom (length before) (run .end)))
     where
       by-room : (full : Bool) → P (cond full (standing run) (stepped file block run) .book)
       by-room true = holds

@@ -1,7 +1,6 @@
 pub mod Appending
 pub mod BookAfter
 pub mod EnoughBlocks
-pub mod Naming
 pub mod Parts
 pub mod PrintedClaimHolds
 pub mod PrintedCredits

@@ -12,7 +12,8 @@ use Rattle.numbers.proofs.Refusals.{answer-accepted, answer-refused}
 use Rattle.settlement.specs.declared.Book.{Book}
 use Rattle.settlement_run.specs.declared.Run.{Run}
 use Rattle.settlement_run.specs.Run.{Part, behind, andThen, stepPart, opening, blockAt, runTo}
-use Rattle.settlement_run.specs.Calls.{standing, StandsAt}
+use Rattle.settlement_run.specs.Calls.{standing}
+use Rattle.settlement_run.specs.InnerContracts.{ending, StandsAt}
 
 -- ---- one part after another
 
@@ -36,6 +37,9 @@ module _ (part : Part) (next : Book → Part) where
 -- ---- a run that stands where a part ends, and the next part
 
 module _ (part : Part) (run : Run) (at : StandsAt part run) (next : Book → Part) where
+  run-refusal : run .refusal ≡ part .refusal
+  run-refusal = ap (λ (p : Part). p .refusal) at
+
   -- it adds the lines that it adds to the part
   pub adds : andThen part next .printed ≡ part .printed ++ andThen (standing run) next .printed
   adds = by-part (ℕ-discrete (part .refusal) 0)
@@ -43,44 +47,26 @@ module _ (part : Part) (run : Run) (at : StandsAt part run) (next : Book → Par
       by-part : Dec (part .refusal ≡ 0) → andThen part next .printed ≡ part .printed ++ andThen (standing run) next .printed
       by-part (yes goes) =
           ap (λ (p : Part). p .printed) (then-goes part next goes)
-          ∙ ap (λ (b : Book). part .printed ++ next b .printed) (sym (at .book))
-          ∙ sym (ap (λ (p : Part). part .printed ++ p .printed) (then-goes (standing run) next (at .refusal ∙ goes)))
+          ∙ ap (λ (p : Part). part .printed ++ next (p .book) .printed) (sym at)
+          ∙ sym (ap (λ (p : Part). part .printed ++ p .printed) (then-goes (standing run) next (run-refusal ∙ goes)))
       by-part (no stopped) =
           ap (λ (p : Part). p .printed) (then-stops part next stopped)
           ∙ sym (append-nil (part .printed))
-          ∙ sym (ap (λ (p : Part). part .printed ++ p .printed) (then-stops (standing run) next (λ goes. stopped (sym (at .refusal) ∙ goes))))
+          ∙ sym (ap (λ (p : Part). part .printed ++ p .printed) (then-stops (standing run) next (λ goes. stopped (sym run-refusal ∙ goes))))
 
   -- and where it then stands, the part with the next one ends
   pub stands-next : (result : Run) → StandsAt (andThen (standing run) next) result → StandsAt (andThen part next) result
-  stands-next result stands = by-part (ℕ-discrete (part .refusal) 0)
+  stands-next result stands = stands ∙ by-part (ℕ-discrete (part .refusal) 0)
     where
-      by-part : Dec (part .refusal ≡ 0) → StandsAt (andThen part next) result
+      by-part : Dec (part .refusal ≡ 0) → ending (andThen (standing run) next) ≡ ending (andThen part next)
       by-part (yes goes) =
-          let here = then-goes part next goes in
-          let there = then-goes (standing run) next (at .refusal ∙ goes) in
-          record {
-            refusal =
-                stands .refusal ∙ ap (λ (p : Part). p .refusal) there ∙ ap (λ (b : Book). next b .refusal) (at .book)
-                ∙ sym (ap (λ (p : Part). p .refusal) here);
-            tag =
-                stands .tag ∙ ap (λ (p : Part). p .tag) there ∙ ap (λ (b : Book). next b .tag) (at .book)
-                ∙ sym (ap (λ (p : Part). p .tag) here);
-            number =
-                stands .number ∙ ap (λ (p : Part). p .number) there ∙ ap (λ (b : Book). next b .number) (at .book)
-                ∙ sym (ap (λ (p : Part). p .number) here);
-            book =
-                stands .book ∙ ap (λ (p : Part). p .book) there ∙ ap (λ (b : Book). next b .book) (at .book)
-                ∙ sym (ap (λ (p : Part). p .book) here);
-          }
+          ap ending (then-goes (standing run) next (run-refusal ∙ goes))
+          ∙ ap (λ (p : Part). ending (next (p .book))) at
+          ∙ sym (ap ending (then-goes part next goes))
       by-part (no stopped) =
-          let here = then-stops part next stopped in
-          let there = then-stops (standing run) next (λ goes. stopped (sym (at .refusal) ∙ goes)) in
-          record {
-            refusal = stands .refusal ∙ ap (λ (p : Part). p .refusal) there ∙ at .refusal ∙ sym (ap (λ (p : Part). p .refusal) here);
-            tag = stands .tag ∙ ap (λ (p : Part). p .tag) there ∙ at .tag ∙ sym (ap (λ (p : Part). p .tag) here);
-            number = stands .number ∙ ap (λ (p : Part). p .number) there ∙ at .number ∙ sym (ap (λ (p : Part). p .number) here);
-            book = stands .book ∙ ap (λ (p : Part). p .book) there ∙ at .book ∙ sym (ap (λ (p : Part). p .book) here);
-          }
+          ap ending (then-stops (standing run) next (λ goes. stopped (sym run-refusal ∙ goes)))
+          ∙ at
+          ∙ sym (ap ending (then-stops part next stopped))
 
 -- ---- block by block
 

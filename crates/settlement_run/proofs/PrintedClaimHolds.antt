@@ -11,9 +11,10 @@ use Rattle.numbers.specs.Lists.{total}
 use Rattle.numbers.proofs.Counts.{listBelow-ext}
 use Rattle.settlement.specs.declared.Book.{Book}
 use Rattle.settlement.specs.Book.{openShortfall, isShort, fundLeft}
-use Rattle.settlement.specs.Ledger.{Entry, bookAt, sumOver, hourCount, positiveTarget, credit, charge, collection, ofAll}
+use Rattle.settlement.specs.Ledger.{Entry, bookAt, ledgerOf, IsLedger, sumOver, hourCount, positiveTarget, credit, charge, collection, ofAll}
 use Rattle.settlement.specs.Claim.{Claim}
 use Rattle.settlement.proofs.ClaimHolds.{claim, kept-all}
+use Rattle.settlement.proofs.OneLedger.{is-ledger}
 use Rattle.settlement.proofs.RunLaws.{over-all}
 use Rattle.statement_text.specs.Text.{Line}
 use Rattle.settlement_run.specs.Run.{Part, blockCount, wholeRun, allLines}
@@ -24,13 +25,16 @@ use Rattle.settlement_run.proofs.RunLedger.{Made, made-run}
 
 module _ (file input : List ℕ) (blocks : ℕ) (run : Part) (made : Made file input blocks run) where
   abbrev ledger : List Entry
-  ledger = made .ledger
+  ledger = ledgerOf (run .calls)
+
+  answered : IsLedger ledger
+  answered = is-ledger (run .calls)
 
   whole : Claim ledger
-  whole = claim ledger (made .answered)
+  whole = claim (run .calls)
 
   hours-are : run .book .hours ≡ sumOver hourCount ledger
-  hours-are = sym (ap (λ (book : Book). book .hours) (made .reached)) ∙ kept-all ledger (made .answered) .hours
+  hours-are = sym (ap (λ (book : Book). book .hours) (made .reached)) ∙ kept-all ledger answered .hours
 
   fund-is : fundLeft (bookAt ledger) ≡ fundLeft (run .book)
   fund-is = ap fundLeft (made .reached)
@@ -40,14 +44,14 @@ module _ (file input : List ℕ) (blocks : ℕ) (run : Part) (made : Made file i
   credits-are =
       ap total
       (listBelow-ext (λ owner. sumLines (creditIn owner) (allLines run)) (λ owner. sumOver (credit owner) ledger) owners
-      (all-credits run ledger (made .answered) (made .prints)))
+      (all-credits run ledger answered (made .prints)))
       ∙ sym (over-all credit ledger)
 
   charges-are : ofOwners (λ owner. sumLines (chargeIn owner) (allLines run)) ≡ sumOver (ofAll charge) ledger
   charges-are =
       ap total
       (listBelow-ext (λ owner. sumLines (chargeIn owner) (allLines run)) (λ owner. sumOver (charge owner) ledger) owners
-      (all-charges run ledger (made .answered) (made .prints)))
+      (all-charges run ledger answered (made .prints)))
       ∙ sym (over-all charge ledger)
 
   collected-is : collectedIn input (run .book .hours) ≡ sumOver collection ledger
@@ -64,25 +68,22 @@ module _ (file input : List ℕ) (blocks : ℕ) (run : Part) (made : Made file i
   year-closes ended =
       subst (λ (book : Book). (fundLeft book ≡ 0) ⊎ ((owner : ℕ) → owner < owners → isShort book owner ≡ false)) (made .reached)
       (whole .yearCloses
-      (kept-all ledger (made .answered) .endedAfter (ap (λ (book : Book). book .ended) (made .reached) ∙ ended)))
+      (kept-all ledger answered .endedAfter (ap (λ (book : Book). book .ended) (made .reached) ∙ ended)))
 
   made-claim : PrintedClaim file input run
   made-claim =
       record {
-        ledger = ledger;
-        answered = made .answered;
-        made = made .made;
-        reached = made .reached;
         claim = whole;
+        reached = made .reached;
         prints = made .prints;
         creditsPrinted =
-            subst (λ (printed : List Line). CreditsPrinted printed ledger) (sym (made .prints)) (credits-printed ledger (made .answered));
+            subst (λ (printed : List Line). CreditsPrinted printed ledger) (sym (made .prints)) (credits-printed ledger answered);
         closes = omega (arith, whole .closes, collected-is, credits-are, charges-are, fund-is);
-        printsFund = all-fund run ledger (made .answered) (made .prints);
+        printsFund = all-fund run ledger answered (made .prints);
         ownerCloses =
             λ owner inside.
             omega
-            (arith, whole .ownerCloses owner inside, targets-are owner, all-credits run ledger (made .answered) (made .prints) owner inside, short-is owner);
+            (arith, whole .ownerCloses owner inside, targets-are owner, all-credits run ledger answered (made .prints) owner inside, short-is owner);
         yearCloses = year-closes;
       }
 

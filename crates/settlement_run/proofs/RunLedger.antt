@@ -3,11 +3,10 @@
 use Prim.Native.Nat.{ℕ, zero, suc, _+_}
 use mathlib.Core.Path.{_≡_, refl, sym, ap, ap₂, subst, _∙_}
 use mathlib.Core.Bool.{Bool, true, false, cond}
-use mathlib.Core.List.{List, [], _∷_, _++_, map, append-assoc, append-nil}
+use mathlib.Core.List.{List, [], _∷_, _++_, append-assoc, append-nil}
 use native.Mathlib.Decide.{ℕ-discrete}
 use native.Mathlib.Omega.{arith}
-use lib.ListN.{length, replicate}
-use lib.IntN.{pos}
+use lib.ListN.{length}
 use Rattle.numbers.specs.Limits.{owners, nodes}
 use Rattle.numbers.specs.Lists.{total, listBelow}
 use Rattle.numbers.specs.Refusals.{answerBy}
@@ -16,15 +15,16 @@ use Rattle.numbers.proofs.Refusals.{answer-accepted, answer-refused}
 use Rattle.numbers.proofs.Counts.{total-suc}
 use Rattle.target.specs.Target.{target}
 use Rattle.settlement.specs.declared.Book.{Book}
-use Rattle.settlement.specs.Events.{Call, hourCall, monthEndCall, yearEndCall, eventOf, isDue, refusal, lines, bookAfter, Answered}
-use Rattle.settlement.specs.Ledger.{Entry, Asked, asked, bookAt, IsLedger, atHour, hourCount, sumOver, callPositive, positiveTarget, callAmount, collection}
-use Rattle.settlement.proofs.EveryList.{an-answer}
-use Rattle.settlement.proofs.EntryParts.{Nothing, Parts, over-next, refused-nothing, written-is, book-is, accepted-parts}
-use Rattle.settlement.proofs.ClaimHolds.{kept-all, book-at-start, book-at-entry}
+use Rattle.settlement.specs.Book.{fresh}
+use Rattle.settlement.specs.Events.{Call, hourCall, monthEndCall, yearEndCall, eventOf, isDue, refusal, recordOf, lines, bookAfter}
+use Rattle.settlement.specs.Ledger.{Entry, Asked, bookAt, entryOn, ledgerOf, atHour, hourCount, sumOver, callPositive, positiveTarget, callAmount, collection}
+use Rattle.settlement.proofs.EntryParts.{Parts, over-next, refused-nothing, accepted-parts}
+use Rattle.settlement.proofs.ClaimHolds.{kept-all}
+use Rattle.settlement.proofs.OneLedger.{book-at-start, book-at-entry, ledger-none, ledger-next, is-ledger}
 use Rattle.settlement.proofs.RunLaws.{over-none}
 use Rattle.hour_block.specs.Block.{amountIn, pricesIn, decodeRefusal}
 use Rattle.statement_text.specs.Text.{Line, eventLines}
-use Rattle.settlement_run.specs.Run.{Part, goesOn, stops, behind, andThen, tagOf, numberOf, askedOf, eventPart, ifDue, hourPart, stepPart, opening, blockAt, runTo}
+use Rattle.settlement_run.specs.Run.{Part, goesOn, stops, behind, andThen, tagOf, numberOf, askedOf, eventPart, ifDue, hourPart, stepPart, openingRefusal, opening, blockAt, runTo}
 use Rattle.settlement_run.specs.PrintedClaim.{collectedIn, targetsIn, numberIn, ledgerLines}
 use Rattle.settlement_run.proofs.Parts.{then-goes, then-stops}
 
@@ -45,6 +45,7 @@ behind-then first part next = by-refusal (ℕ-discrete (part .refusal) 0)
           refusal = next (part .book) .refusal;
           tag = next (part .book) .tag;
           number = next (part .book) .number;
+          faulty = next (part .book) .faulty;
           book = next (part .book) .book;
         })
         (append-assoc (next (part .book) .calls) (part .calls) (first .calls))
@@ -56,14 +57,12 @@ behind-then first part next = by-refusal (ℕ-discrete (part .refusal) 0)
 
 -- after so many blocks, each an accepted hour unless the run has stopped
 pub record Made (file input : List ℕ) (blocks : ℕ) (part : Part) : Type 0 where
-  pub ledger : List Entry
-  pub answered : IsLedger ledger
-  pub made : map asked ledger ≡ part .calls
-  pub reached : bookAt ledger ≡ part .book
-  pub prints : part .printed ≡ ledgerLines ledger
-  pub collected : sumOver collection ledger ≡ collectedIn input (sumOver hourCount ledger)
-  pub targeted : (owner : ℕ) → sumOver (positiveTarget owner) ledger ≡ targetsIn file input owner (sumOver hourCount ledger)
-  pub counted : part .refusal ≡ 0 → sumOver hourCount ledger ≡ blocks
+  pub reached : bookAt (ledgerOf (part .calls)) ≡ part .book
+  pub prints : part .printed ≡ ledgerLines (ledgerOf (part .calls))
+  pub collected : sumOver collection (ledgerOf (part .calls)) ≡ collectedIn input (sumOver hourCount (ledgerOf (part .calls)))
+  pub targeted : (owner : ℕ)
+      → sumOver (positiveTarget owner) (ledgerOf (part .calls)) ≡ targetsIn file input owner (sumOver hourCount (ledgerOf (part .calls)))
+  pub counted : part .refusal ≡ 0 → sumOver hourCount (ledgerOf (part .calls)) ≡ blocks
 
 -- an hour's call is that of its block
 pub record IsOf (file input : List ℕ) (call : Call) (block : ℕ) : Type 0 where
@@ -101,106 +100,84 @@ module _ (part : List Entry → Entry → ℕ) (f : ℕ → ℕ) (past : List En
       sums ∙ sym (sum-at-hour (entry .call) f (sumOver hourCount past)) ∙ ap (λ (m : ℕ). total (listBelow f m)) next
 
 -- the numbers that the lines have are the book's
-number-is : (call : Call) (ledger : List Entry) → IsLedger ledger → numberOf call (bookAt ledger) ≡ numberIn call ledger
-number-is (hourCall file prices collected) ledger answered = kept-all ledger answered .hours
-number-is monthEndCall ledger answered = kept-all ledger answered .months
-number-is yearEndCall ledger answered = refl
+number-is : (call : Call) (calls : List Asked) → numberOf call (bookAt (ledgerOf calls)) ≡ numberIn call (ledgerOf calls)
+number-is (hourCall file prices collected) calls = kept-all (ledgerOf calls) (is-ledger calls) .hours
+number-is monthEndCall calls = kept-all (ledgerOf calls) (is-ledger calls) .months
+number-is yearEndCall calls = refl
 
 -- ---- an event
 
 module _ (file input : List ℕ) (blocks : ℕ) (run : Part) (before : Made file input blocks run) (on : run .refusal ≡ 0) where
   module _ (call : Call) (of : IsOf file input call blocks) where
     abbrev past : List Entry
-    past = before .ledger
+    past = ledgerOf (run .calls)
 
     abbrev book : Book
-    book = bookAt (before .ledger)
+    book = bookAt past
 
+    -- the entry of the call, and the ledger with it
     abbrev entry : Entry
-    entry =
-        record {
-          call = call;
-          lent = replicate owners (pos 0);
-          result = an-answer call (bookAt (before .ledger)) (replicate owners (pos 0)) .0;
-          written = an-answer call (bookAt (before .ledger)) (replicate owners (pos 0)) .1;
-        }
+    entry = entryOn book (askedOf call)
 
-    answer : Answered call book (replicate owners (pos 0)) (entry .result) (entry .written)
-    answer = an-answer call (bookAt (before .ledger)) (replicate owners (pos 0)) .2
+    next : entry ∷ past ≡ ledgerOf (askedOf call ∷ run .calls)
+    next = sym (ledger-next (askedOf call) (run .calls))
 
     of-next : IsOf file input call (sumOver hourCount past)
     of-next = subst (IsOf file input call) (sym (before .counted on)) of
 
+    -- what is to be shown of the part with the call, by the ledger with it
+    made-next : (lines : List Line) (number tag event faulty : ℕ) (after : Book) → entry .result .book ≡ after
+        → lines ≡ answerBy (entry .result .refusal) (eventLines (tagOf call) (numberIn call past) (entry .written)) []
+        → sumOver collection (entry ∷ past) ≡ collectedIn input (sumOver hourCount (entry ∷ past))
+        → ((owner : ℕ) → sumOver (positiveTarget owner) (entry ∷ past) ≡ targetsIn file input owner (sumOver hourCount (entry ∷ past)))
+        → (number ≡ 0 → sumOver hourCount (entry ∷ past) ≡ atHour call 1 + blocks)
+        → Made file input (atHour call 1 + blocks)
+        (behind run (record { calls = askedOf call ∷ []; printed = lines; refusal = number; tag = tag; number = event; faulty = faulty; book = after }))
+    unfolding ledgerLines
+    made-next lines number tag event faulty after gives printed collected targeted counted =
+        record {
+          reached = ap bookAt (sym next) ∙ book-at-entry entry past ∙ gives;
+          prints = ap₂ (λ (a b : List Line). a ++ b) (before .prints) printed ∙ ap ledgerLines next;
+          collected = subst (λ (l : List Entry). sumOver collection l ≡ collectedIn input (sumOver hourCount l)) next collected;
+          targeted =
+              λ owner.
+              subst (λ (l : List Entry). sumOver (positiveTarget owner) l ≡ targetsIn file input owner (sumOver hourCount l)) next (targeted owner);
+          counted = λ e. ap (sumOver hourCount) (sym next) ∙ counted e;
+        }
+
     event-accepted : refusal call book owners ≡ 0 → Made file input (atHour call 1 + blocks) (behind run (eventPart call book))
-    unfolding eventPart ledgerLines
+    unfolding eventPart
     event-accepted accepted =
-        subst (λ (part : Part). Made file input (atHour call 1 + blocks) (behind run part)) (sym is) after
+        subst (λ (part : Part). Made file input (atHour call 1 + blocks) (behind run part))
+        (sym (answer-accepted (refusal call book owners) _ _ accepted))
+        (made-next (eventLines (tagOf call) (numberOf call book) (lines call book)) 0 0 0 0 (bookAfter call book)
+        (answer-accepted (refusal call book owners) _ _ accepted)
+        (ap₂ (eventLines (tagOf call)) (number-is call (run .calls)) (sym (answer-accepted (refusal call book owners) (lines call book) _ accepted))
+        ∙ sym (answer-accepted (entry .result .refusal) _ [] accepted))
+        (sum-accepted collection (λ hour. positive (amountIn (blockAt input hour))) past entry (before .collected)
+        (parts .collected ∙ of-next .amount) (parts .hour))
+        (λ owner.
+        sum-accepted (positiveTarget owner) (λ hour. positive (target file (pricesIn (blockAt input hour)) hour owner)) past entry
+        (before .targeted owner) (parts .target owner ∙ of-next .positives owner) (parts .hour))
+        (λ _. omega (arith, before .counted on, over-next hourCount entry past, parts .hour)))
       where
-        is : eventPart call book
-            ≡ goesOn (askedOf call ∷ []) (eventLines (tagOf call) (numberOf call book) (lines call book)) (bookAfter call book)
-        is = answer-accepted (refusal call book owners) _ _ accepted
-
-        right : entry .result .refusal ≡ 0
-        right = answer .number ∙ accepted
-
         parts : Parts past entry
-        parts = accepted-parts past entry answer right
-
-        after : Made file input (atHour call 1 + blocks)
-            (behind run (goesOn (askedOf call ∷ []) (eventLines (tagOf call) (numberOf call book) (lines call book)) (bookAfter call book)))
-        after =
-            record {
-              ledger = entry ∷ past;
-              answered = (answer, before .answered);
-              made = ap (askedOf call ∷_) (before .made);
-              reached = book-at-entry entry past ∙ book-is past entry answer right;
-              prints =
-                  ap₂ (λ (a b : List Line). a ++ b) (before .prints)
-                  (ap₂ (eventLines (tagOf call)) (number-is call past (before .answered)) (sym (written-is past entry answer right))
-                  ∙ sym (answer-accepted (entry .result .refusal) _ [] right));
-              collected =
-                  sum-accepted collection (λ hour. positive (amountIn (blockAt input hour))) past entry (before .collected)
-                  (parts .collected ∙ of-next .amount) (parts .hour);
-              targeted =
-                  λ owner.
-                  sum-accepted (positiveTarget owner) (λ hour. positive (target file (pricesIn (blockAt input hour)) hour owner)) past entry
-                  (before .targeted owner) (parts .target owner ∙ of-next .positives owner) (parts .hour);
-              counted = λ _. omega (arith, before .counted on, over-next hourCount entry past, parts .hour);
-            }
+        parts = accepted-parts past entry (record { gives = refl; writes = refl }) accepted
 
     event-refused : (refusal call book owners ≡ 0 → ⊥) → Made file input (atHour call 1 + blocks) (behind run (eventPart call book))
-    unfolding eventPart ledgerLines
+    unfolding eventPart
     event-refused refused =
-        subst (λ (part : Part). Made file input (atHour call 1 + blocks) (behind run part)) (sym is) after
-      where
-        is : eventPart call book ≡ stops (askedOf call ∷ []) (refusal call book owners) (tagOf call) (numberOf call book) book
-        is = answer-refused (refusal call book owners) _ _ refused
-
-        wrong : entry .result .refusal ≡ 0 → ⊥
-        wrong e = refused (sym (answer .number) ∙ e)
-
-        none : Nothing past entry
-        none = refused-nothing past entry wrong
-
-        after : Made file input (atHour call 1 + blocks)
-            (behind run (stops (askedOf call ∷ []) (refusal call book owners) (tagOf call) (numberOf call book) book))
-        after =
-            record {
-              ledger = entry ∷ past;
-              answered = (answer, before .answered);
-              made = ap (askedOf call ∷_) (before .made);
-              reached = book-at-entry entry past ∙ answer .givesBook ∙ answer-refused (refusal call book owners) _ _ refused;
-              prints =
-                  ap₂ (λ (a b : List Line). a ++ b) (before .prints) (sym (answer-refused (entry .result .refusal) _ [] wrong));
-              collected =
-                  sum-refused collection (λ hour. positive (amountIn (blockAt input hour))) past entry (before .collected) (none .collected)
-                  (none .hour);
-              targeted =
-                  λ owner.
-                  sum-refused (positiveTarget owner) (λ hour. positive (target file (pricesIn (blockAt input hour)) hour owner)) past entry
-                  (before .targeted owner) (none .target owner) (none .hour);
-              counted = λ e. absurd (refused e);
-            }
+        let none = refused-nothing past entry refused in
+        subst (λ (part : Part). Made file input (atHour call 1 + blocks) (behind run part))
+        (sym (answer-refused (refusal call book owners) _ _ refused))
+        (made-next [] (refusal call book owners) (tagOf call) (numberOf call book) (recordOf call (refusal call book owners)) book
+        (answer-refused (refusal call book owners) _ _ refused)
+        (sym (answer-refused (entry .result .refusal) _ [] refused))
+        (sum-refused collection (λ hour. positive (amountIn (blockAt input hour))) past entry (before .collected) (none .collected) (none .hour))
+        (λ owner.
+        sum-refused (positiveTarget owner) (λ hour. positive (target file (pricesIn (blockAt input hour)) hour owner)) past entry
+        (before .targeted owner) (none .target owner) (none .hour))
+        (λ e. absurd (refused e)))
 
     made-event : Made file input (atHour call 1 + blocks) (behind run (eventPart call (run .book)))
     made-event =
@@ -213,12 +190,9 @@ module _ (file input : List ℕ) (blocks : ℕ) (run : Part) (before : Made file
 
   -- a part that makes no call
   made-still : (now refusal tag number : ℕ) → (refusal ≡ 0 → now ≡ blocks)
-      → Made file input now (behind run (stops [] refusal tag number (run .book)))
+      → Made file input now (behind run (stops [] refusal tag number 0 (run .book)))
   made-still now refusal tag number same =
       record {
-        ledger = before .ledger;
-        answered = before .answered;
-        made = before .made;
         reached = before .reached;
         prints = append-nil (run .printed) ∙ before .prints;
         collected = before .collected;
@@ -256,15 +230,15 @@ module _ (file input : List ℕ) (blocks : ℕ) (run : Part) (before : Made file
 
       by-refusal : Dec (number ≡ 0)
           → Made file input (suc blocks)
-          (behind run (answerBy number (eventPart call (run .book)) (stops [] number 72 (run .book .hours) (run .book))))
+          (behind run (answerBy number (eventPart call (run .book)) (stops [] number 72 (run .book .hours) 0 (run .book))))
       by-refusal (yes whole) =
           subst (λ (part : Part). Made file input (suc blocks) (behind run part))
-          (sym (answer-accepted number (eventPart call (run .book)) (stops [] number 72 (run .book .hours) (run .book)) whole))
+          (sym (answer-accepted number (eventPart call (run .book)) (stops [] number 72 (run .book .hours) 0 (run .book)) whole))
           (subst (λ (n : ℕ). Made file input n (behind run (eventPart call (run .book)))) next
           (made-event call (record { amount = refl; positives = λ owner. refl })))
       by-refusal (no broken) =
           subst (λ (part : Part). Made file input (suc blocks) (behind run part))
-          (sym (answer-refused number (eventPart call (run .book)) (stops [] number 72 (run .book .hours) (run .book)) broken))
+          (sym (answer-refused number (eventPart call (run .book)) (stops [] number 72 (run .book .hours) 0 (run .book)) broken))
           (made-still (suc blocks) number 72 (run .book .hours) (λ e. absurd (broken e)))
 
 -- ---- the run
@@ -279,9 +253,6 @@ made-then file input blocks now part next before after = by-refusal (ℕ-discret
     by-refusal (no stopped) =
         subst (Made file input now) (sym (then-stops part next stopped))
         (record {
-          ledger = before .ledger;
-          answered = before .answered;
-          made = before .made;
           reached = before .reached;
           prints = before .prints;
           collected = before .collected;
@@ -314,28 +285,26 @@ module _ (file input : List ℕ) where
           made-due file input (suc blocks) (behind run hour) (made-hour file input blocks run before on) e monthEndCall
           (record { amount = refl; positives = λ owner. refl }) refl)
 
-  pub made-run : (readable : Bool) (n : ℕ) → Made file input n (runTo readable file input n)
-  unfolding runTo opening ledgerLines total listBelow
-  made-run readable zero =
+  -- nothing was called yet
+  made-none : (refusal : ℕ) → Made file input 0 (stops [] refusal 0 0 0 fresh)
+  unfolding ledgerLines total listBelow
+  made-none refusal =
       record {
-        ledger = [];
-        answered = tt;
-        made = made-none;
-        reached = book-at-start;
-        prints = refl;
-        collected = over-none collection ∙ sym (sum-of-none (λ hour. positive (amountIn (blockAt input hour))));
-        targeted =
-            λ owner.
-            over-none (positiveTarget owner)
-            ∙ sym (sum-of-none (λ hour. positive (target file (pricesIn (blockAt input hour)) hour owner)));
-        counted = λ _. over-none hourCount;
+        reached = ap bookAt ledger-none ∙ book-at-start;
+        prints = ap ledgerLines (sym ledger-none);
+        collected = no-sum collection (λ hour. positive (amountIn (blockAt input hour)));
+        targeted = λ owner. no-sum (positiveTarget owner) (λ hour. positive (target file (pricesIn (blockAt input hour)) hour owner));
+        counted = λ _. ap (sumOver hourCount) ledger-none ∙ over-none hourCount;
       }
     where
-      made-none : map asked [] ≡ []
-      made-none = refl
+      no-sum : (part : List Entry → Entry → ℕ) (f : ℕ → ℕ) → sumOver part (ledgerOf []) ≡ total (listBelow f (sumOver hourCount (ledgerOf [])))
+      no-sum part f =
+          ap (sumOver part) ledger-none ∙ over-none part
+          ∙ sym (ap (λ (l : List Entry). total (listBelow f (sumOver hourCount l))) ledger-none ∙ ap (λ (n : ℕ). total (listBelow f n)) (over-none hourCount))
 
-      sum-of-none : (f : ℕ → ℕ) → total (listBelow f (sumOver hourCount [])) ≡ 0
-      sum-of-none f = ap (λ (n : ℕ). total (listBelow f n)) (over-none hourCount)
+  pub made-run : (readable : Bool) (n : ℕ) → Made file input n (runTo readable file input n)
+  unfolding runTo opening
+  made-run readable zero = made-none (openingRefusal readable (length file))
   made-run readable (suc n) =
       made-then file input n (suc n) (runTo readable file input n) (stepPart file (blockAt input n)) (made-run readable n)
       (made-step n (runTo readable file input n) (made-run readable n))

@@ -1,15 +1,15 @@
 -- A step from its three events, and a step that does nothing.
 -- Assumes nothing.
 use Prim.Native.Nat.{ℕ, _+_, _≤_, _<_}
-use mathlib.Core.Path.{_≡_, refl, sym, ap, subst, _∙_}
-use mathlib.Core.Bool.{Bool, true, false, cond, not, _||_, false≢true}
+use mathlib.Core.Path.{_≡_, refl, sym, ap, _∙_}
+use mathlib.Core.Bool.{Bool, true, false, cond}
 use mathlib.Core.List.{List}
 use native.Mathlib.Omega.{arith}
-use lib.Dec.{eqb}
 use lib.ListN.{length}
-use borrow.Author.Tests.{ltb-true, ltb-false, eq-eqb, ne-eqb}
+use borrow.Author.Tests.{ltb-true, ltb-false}
 use Rattle.settlement.specs.declared.Book.{Book}
 use Rattle.settlement.specs.Events.{monthEndCall, yearEndCall}
+use Rattle.statement_text.specs.Buffer.{endAfter}
 use Rattle.statement_text.specs.InnerContracts.{Wrote}
 use Rattle.statement_text.specs.Text.{textOf}
 use Rattle.statement_text.proofs.Lines.{text-append}
@@ -17,10 +17,10 @@ use Rattle.statement_text.proofs.Pieces.{wrote-then, wrote-as}
 use Rattle.statement_text.proofs.Room.{with-room, without-room}
 use Rattle.settlement_run.specs.declared.Run.{Run}
 use Rattle.settlement_run.specs.Run.{Part, andThen, ifDue, hourPart, stepPart}
-use Rattle.settlement_run.specs.Calls.{stepRoom, lacksRoom, standing, StandsAt, stepped, isIdle, namesRecord, Steps}
-use Rattle.settlement_run.specs.InnerContracts.{Appended}
+use Rattle.settlement_run.specs.Calls.{stepRoom, lacksRoom, standing, runAt, stepped, steppedRun, steppedText}
+use Rattle.settlement_run.specs.InnerContracts.{StandsAt, Appended}
 use Rattle.settlement_run.proofs.Parts.{adds, stands-next}
-use Rattle.settlement_run.proofs.Appending.{SameEnd, stands-as, appended-stopped, same-next}
+use Rattle.settlement_run.proofs.Appending.{SameEnd, appended-stopped, same-next}
 
 -- ---- one part behind another
 
@@ -47,81 +47,51 @@ module _ (file block : List ℕ) (run : Run) (before : List ℕ) where
   abbrev lacks : Bool
   lacks = lacksRoom stepRoom (length before) (run .end)
 
-  -- the run, with what was found of the room
-  abbrev withFull : Bool → Run
-  withFull full =
-      record {
-        full = full;
-        end = run .end;
-        refusal = run .refusal;
-        tag = run .tag;
-        number = run .number;
-        faulty = run .faulty;
-        book = run .book;
-      }
+  -- the result and the buffer of a step
+  abbrev IsStepped : Run → List ℕ → Type 0
+  IsStepped result after = (result ≡ steppedRun file block run before) × (after ≡ steppedText file block run before)
 
-  idle-by-room : lacks ≡ true → isIdle run (length before) ≡ true
-  idle-by-room short = ap (λ (t : Bool). t || not (eqb (run .refusal) 0)) short
+  -- a run with the end and the place of a step, by the room
+  as-stepped : (full : Bool) → lacks ≡ full → {result : Run} → result .full ≡ lacks
+      → result .end ≡ endAfter stepRoom (textOf (stepped file block run .printed)) before (run .end)
+      → StandsAt (cond full (standing run) (stepped file block run)) result → result ≡ steppedRun file block run before
+  as-stepped full is same ends stands =
+      let end = endAfter stepRoom (textOf (stepped file block run .printed)) before (run .end) in
+      (λ i. runAt (stands i) (same i) (ends i))
+      ∙ ap (λ (t : Bool). runAt (cond t (standing run) (stepped file block run)) lacks end) (sym is)
 
   -- too little room
-  pub step-full : (full : Bool) → full ≡ lacks → full ≡ true → Steps file block run before (withFull full) before
+  pub step-full : (full : Bool) → full ≡ lacks → full ≡ true → IsStepped (runAt (standing run) full (run .end)) before
   step-full full is short =
       let same = without-room stepRoom (textOf (stepped file block run .printed)) before (run .end) (ltb-true (length before) _ (sym is ∙ short)) in
-      record {
-        full = is;
-        ends = same .0;
-        writes = same .1;
-        stands =
-            subst (λ (t : Bool). StandsAt (cond t (standing run) (stepped file block run)) (withFull full)) (sym short)
-            (record { refusal = refl; tag = refl; number = refl; book = refl });
-        names = λ busy. absurd (false≢true (sym busy ∙ idle-by-room (sym is ∙ short)));
-        keeps = λ _. refl;
-      }
+      (as-stepped true (sym is ∙ short) is (same .0) refl, same .1)
 
   -- with room: the text of what comes of the block is written, and the run stands behind it
   module _ (full : Bool) (is : full ≡ lacks) (room : full ≡ false) where
     pub enough : run .end + stepRoom ≤ length before
     enough = ltb-false (length before) (run .end + stepRoom) (sym is ∙ room)
 
-    idle-by-refusal : isIdle run (length before) ≡ not (eqb (run .refusal) 0)
-    idle-by-refusal = ap (λ (t : Bool). t || not (eqb (run .refusal) 0)) (sym is ∙ room)
-
     with-text : (result : Run) (after : List ℕ) → result .full ≡ full → Reached (stepped file block run) before (run .end) result after
-        → (isIdle run (length before) ≡ false → namesRecord file result ≡ true)
-        → (isIdle run (length before) ≡ true → result .faulty ≡ run .faulty) → Steps file block run before result after
-    with-text result after same reached names keeps =
+        → IsStepped result after
+    with-text result after same reached =
         let says = with-room stepRoom (textOf (stepped file block run .printed)) before (run .end) after (result .end) enough (reached .wrote) in
-        record {
-          full = same ∙ is;
-          ends = says .0;
-          writes = says .1;
-          stands =
-              subst (λ (t : Bool). StandsAt (cond t (standing run) (stepped file block run)) result) (sym (same ∙ room)) (reached .stands);
-          names = names;
-          keeps = keeps;
-        }
+        (as-stepped false (sym is ∙ room) (same ∙ is) (says .0) (reached .stands), says .1)
 
     -- the run has stopped
-    pub step-stopped : (run .refusal ≡ 0 → ⊥) → Steps file block run before (withFull full) before
+    pub step-stopped : (run .refusal ≡ 0 → ⊥) → IsStepped (runAt (standing run) full (run .end)) before
     step-stopped stopped =
         let made = appended-stopped run (stepPart file block) before stopped in
-        with-text (withFull full) before refl (record { wrote = made .wrote; stands = ends (made .stands) })
-        (λ busy. absurd (false≢true (sym busy ∙ idle-by-refusal ∙ ap not (ne-eqb (run .refusal) 0 stopped)))) (λ _. refl)
-      where
-        ends : {part : Part} → StandsAt part run → StandsAt part (withFull full)
-        ends at = record { refusal = at .refusal; tag = at .tag; number = at .number; book = at .book }
+        with-text (runAt (standing run) full (run .end)) before refl (record { wrote = made .wrote; stands = made .stands })
 
     -- the hour, the month end and the year end, one behind another
     pub step-settled : run .refusal ≡ 0 → {hour month year : Run} {one two three : List ℕ}
-        → Appended (hourPart file block (run .book)) (withFull full) before hour one
+        → Appended (hourPart file block (run .book)) (runAt (standing run) full (run .end)) before hour one
         → Appended (andThen (standing hour) (ifDue monthEndCall)) hour one month two
-        → Appended (andThen (standing month) (ifDue yearEndCall)) month two year three
-        → namesRecord file year ≡ true → Steps file block run before year three
+        → Appended (andThen (standing month) (ifDue yearEndCall)) month two year three → IsStepped year three
     unfolding stepPart
-    step-settled goes {hour} {month} {year} {one} {two} {three} first second third names =
+    step-settled goes {hour} {month} {year} {one} {two} {three} first second third =
         with-text year three (third .full ∙ second .full ∙ first .full)
-        (record { wrote = wrote-as (ap textOf (same .printed)) (years .wrote); stands = stands-as same (years .stands) })
-        (λ _. names) (λ idle. absurd (false≢true (sym (idle-by-refusal ∙ ap not (eq-eqb (run .refusal) 0 goes)) ∙ idle)))
+        (record { wrote = wrote-as (ap textOf (same .printed)) (years .wrote); stands = years .stands ∙ same .ends })
       where
         hours : Reached (hourPart file block (run .book)) before (run .end) hour one
         hours = record { wrote = first .wrote; stands = first .stands }

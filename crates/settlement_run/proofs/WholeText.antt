@@ -1,22 +1,22 @@
 -- What is written out and what stands in the buffer, joined, is the text of the run: after every call, and as a whole at its end.
 -- Assumes nothing.
 use Prim.Native.Nat.{ℕ, suc, _+_, _≤_}
-use mathlib.Core.Path.{_≡_, refl, sym, ap, ap₂, subst, _∙_}
+use mathlib.Core.Path.{_≡_, refl, sym, ap, ap₂, _∙_}
 use mathlib.Core.Bool.{Bool, true, false, cond}
 use mathlib.Core.Logic.{inl, inr}
 use mathlib.Core.List.{List, [], _∷_, _++_, append-assoc, append-nil}
 use native.Mathlib.Omega.{arith}
 use lib.ListN.{length, take}
 use borrow.Author.Tests.{ltb-true, ltb-false}
-use Rattle.settlement.specs.declared.Book.{Book}
 use Rattle.statement_text.specs.Buffer.{written, textAfter, endAfter}
 use Rattle.statement_text.specs.Text.{textOf, lineRoom}
 use Rattle.statement_text.proofs.Pieces.{front}
 use Rattle.statement_text.proofs.Room.{with-room, without-room}
 use Rattle.statement_text.proofs.Lines.{text-none, text-append, text-one}
 use Rattle.settlement_run.specs.declared.Run.{Run}
-use Rattle.settlement_run.specs.Run.{Part, andThen, stepPart, opening, blockAt, blockCount, runTo, lastLine, allLines, runText}
-use Rattle.settlement_run.specs.Calls.{stepRoom, begun, standing, StandsAt, Steps, lastText, closed}
+use Rattle.settlement_run.specs.Run.{Part, andThen, stepPart, opening, blockAt, blockCount, runTo, lastLine, allLines, runText, explanation, runSentence}
+use Rattle.settlement_run.specs.Calls.{stepRoom, begun, standing, steppedRun, steppedText, lastText, closed}
+use Rattle.settlement_run.specs.InnerContracts.{ending, StandsAt}
 use Rattle.settlement_run.specs.Turns.{UnderWay, opened, stepped, waited, writtenOut, emptied, IsRead}
 use Rattle.settlement_run.proofs.Within.{step-within}
 use Rattle.settlement_run.proofs.Parts.{adds, stands-next, run-next, stopped-from}
@@ -44,57 +44,45 @@ module _ (readable : Bool) (file input : List ℕ) where
 
   joined-opened : (buffer : List ℕ) → Joined readable file input 0 [] buffer (begun readable (length file))
   unfolding runTo opening
-  joined-opened buffer =
-      record {
-        text = sym text-none;
-        stands = record { refusal = refl; tag = refl; number = refl; book = refl };
-        within = omega arith;
-      }
+  joined-opened buffer = record { text = sym text-none; stands = refl; within = omega arith }
 
-  module _ {n : ℕ} {out before after : List ℕ} {run result : Run} (joined : Joined readable file input n out before run)
-      (steps : Steps file (blockAt input n) run before result after) where
+  module _ {n : ℕ} {out before : List ℕ} {run : Run} (joined : Joined readable file input n out before run) where
     abbrev further : Part
     further = andThen (standing run) (stepPart file (blockAt input n))
 
+    abbrev result : Run
+    result = steppedRun file (blockAt input n) run before
+
+    abbrev after : List ℕ
+    after = steppedText file (blockAt input n) run before
+
+    -- where the step stands, by the room
+    stood : (full : Bool) → result .full ≡ full → standing result ≡ ending (cond full (standing run) further)
+    stood full is = ap (λ (t : Bool). ending (cond t (standing run) further)) is
+
     joined-stepped : result .full ≡ false → Joined readable file input (suc n) out after result
     joined-stepped room-left =
-        let enough : run .end + stepRoom ≤ length before
-        = ltb-false (length before) (run .end + stepRoom) (sym (steps .full) ∙ room-left)
-        in
         record {
           text =
-              ap (λ (l : List ℕ). out ++ l) (ap₂ (λ (k : ℕ) (l : List ℕ). take k l) (steps .ends) (steps .writes))
-              ∙ appended stepRoom (textOf (further .printed)) out before (run .end) (joined .within) enough
+              appended stepRoom (textOf (further .printed)) out before (run .end) (joined .within) (ltb-false (length before) (run .end + stepRoom) room-left)
               ∙ ap (λ (l : List ℕ). l ++ textOf (further .printed)) (joined .text)
               ∙ sym (text-append (upTo n .printed) (further .printed))
               ∙ ap textOf (sym (adds (upTo n) run (joined .stands) (stepPart file (blockAt input n))))
               ∙ ap (λ (p : Part). textOf (p .printed)) (sym (run-next readable file input n));
           stands =
-              subst (λ (p : Part). StandsAt p result) (sym (run-next readable file input n))
-              (stands-next (upTo n) run (joined .stands) (stepPart file (blockAt input n)) result
-              (subst (λ (t : Bool). StandsAt (cond t (standing run) further) result) room-left (steps .stands)));
-          within = step-within steps (joined .within);
+              stands-next (upTo n) run (joined .stands) (stepPart file (blockAt input n)) result (stood false room-left)
+              ∙ ap ending (sym (run-next readable file input n));
+          within = step-within file (blockAt input n) run before refl refl (joined .within);
         }
 
     joined-waited : result .full ≡ true → Joined readable file input n out after result
     joined-waited full =
-        let short = ltb-true (length before) (run .end + stepRoom) (sym (steps .full) ∙ full) in
+        let short = ltb-true (length before) (run .end + stepRoom) full in
         let same = without-room stepRoom (textOf (further .printed)) before (run .end) short in
-        let end : result .end ≡ run .end = steps .ends ∙ sym (same .0) in
-        let buffer : after ≡ before = steps .writes ∙ sym (same .1) in
-        let still : StandsAt (standing run) result
-        = subst (λ (t : Bool). StandsAt (cond t (standing run) further) result) full (steps .stands)
-        in
         record {
-          text = ap (λ (l : List ℕ). out ++ l) (ap₂ (λ (k : ℕ) (l : List ℕ). take k l) end buffer) ∙ joined .text;
-          stands =
-              record {
-                refusal = still .refusal ∙ joined .stands .refusal;
-                tag = still .tag ∙ joined .stands .tag;
-                number = still .number ∙ joined .stands .number;
-                book = still .book ∙ joined .stands .book;
-              };
-          within = step-within steps (joined .within);
+          text = ap (λ (l : List ℕ). out ++ l) (ap₂ (λ (k : ℕ) (l : List ℕ). take k l) (sym (same .0)) (sym (same .1))) ∙ joined .text;
+          stands = stood true full ∙ joined .stands;
+          within = step-within file (blockAt input n) run before refl refl (joined .within);
         }
 
   joined-out : {n : ℕ} {out before : List ℕ} {run : Run} (after : List ℕ) → Joined readable file input n out before run
@@ -102,21 +90,15 @@ module _ (readable : Bool) (file input : List ℕ) where
   joined-out {n} {out} {before} {run} after joined =
       record {
         text = append-nil (out ++ take (run .end) before) ∙ joined .text;
-        stands =
-            record {
-              refusal = joined .stands .refusal;
-              tag = joined .stands .tag;
-              number = joined .stands .number;
-              book = joined .stands .book;
-            };
+        stands = joined .stands;
         within = omega arith;
       }
 
   pub texts-join : {n : ℕ} {out buffer : List ℕ} {run : Run} → UnderWay readable file input n out buffer run
       → Joined readable file input n out buffer run
   texts-join (opened buffer) = joined-opened buffer
-  texts-join (stepped under steps room-left) = joined-stepped (texts-join under) steps room-left
-  texts-join (waited under steps full) = joined-waited (texts-join under) steps full
+  texts-join (stepped under room-left) = joined-stepped (texts-join under) room-left
+  texts-join (waited under full) = joined-waited (texts-join under) full
   texts-join (writtenOut after under) = joined-out after (texts-join under)
 
   -- ---- the whole run
@@ -127,7 +109,7 @@ module _ (readable : Bool) (file input : List ℕ) where
     whole-is (inl all) = ap upTo (sym all)
     whole-is (inr some) =
         stopped-from readable file input n (blockCount input) (some .0)
-        (λ goes. some .1 (texts-join under .stands .refusal ∙ goes))
+        (λ goes. some .1 (ap (λ (p : Part). p .refusal) (texts-join under .stands) ∙ goes))
 
     pub whole-text : IsRead input n run → closed run before .full ≡ false
         → out ++ take (closed run before .end) (textAfter lineRoom (lastText run) before (run .end)) ≡ runText readable file input
@@ -138,6 +120,11 @@ module _ (readable : Bool) (file input : List ℕ) where
         appended lineRoom (lastText run) out before (run .end) (joined .within) enough
         ∙ ap (λ (l : List ℕ). l ++ lastText run) (joined .text)
         ∙ ap (λ (l : List ℕ). textOf (upTo n .printed) ++ l) (sym (text-one (lastLine (run .refusal) (run .book))))
-        ∙ ap₂ (λ (r : ℕ) (b : Book). textOf (upTo n .printed) ++ textOf (lastLine r b ∷ [])) (joined .stands .refusal) (joined .stands .book)
+        ∙ ap (λ (p : Part). textOf (upTo n .printed) ++ textOf (lastLine (p .refusal) (p .book) ∷ [])) (joined .stands)
         ∙ sym (text-append (upTo n .printed) (lastLine (upTo n .refusal) (upTo n .book) ∷ []))
         ∙ ap (λ (p : Part). textOf (allLines p)) (sym (whole-is read))
+
+    -- and the sentence on its refusal is that of the run
+    pub whole-sentence : IsRead input n run → explanation (standing run) ≡ runSentence readable file input
+    unfolding runSentence
+    whole-sentence read = ap explanation (texts-join under .stands ∙ ap ending (sym (whole-is read)))

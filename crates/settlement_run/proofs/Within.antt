@@ -9,18 +9,19 @@ use Rattle.statement_text.specs.Sentence.{sentenceRoom}
 use Rattle.statement_text.specs.Text.{textOf, lineRoom}
 use Rattle.statement_text.proofs.Room.{ends-within}
 use Rattle.settlement_run.specs.declared.Run.{Run}
-use Rattle.settlement_run.specs.Calls.{stepRoom, stepped, Steps, lastText, closed, explanation}
+use Rattle.settlement_run.specs.Run.{explanation}
+use Rattle.settlement_run.specs.Calls.{stepRoom, standing, stepped, steppedRun, steppedText, lastText, closed}
 
-pub step-within : {file block before after : List ℕ} {run result : Run} → Steps file block run before result after
-    → run .end ≤ length before → result .end ≤ length after
-step-within {file} {block} {before} {after} {run} steps inside =
-    ends-within stepRoom (textOf (stepped file block run .printed)) before (run .end) (steps .ends) (steps .writes) inside
+pub step-within : (file block : List ℕ) (run : Run) (before : List ℕ) {result : Run} {after : List ℕ} → result ≡ steppedRun file block run before
+    → after ≡ steppedText file block run before → run .end ≤ length before → result .end ≤ length after
+step-within file block run before is writes inside =
+    ends-within stepRoom (textOf (stepped file block run .printed)) before (run .end) (ap (λ (r : Run). r .end) is) writes inside
 
 pub closing-within : (run : Run) (before : List ℕ) {result : Run} {after : List ℕ} → result ≡ closed run before
     → after ≡ textAfter lineRoom (lastText run) before (run .end) → run .end ≤ length before → result .end ≤ length after
 closing-within run before is writes inside =
     ends-within lineRoom (lastText run) before (run .end) (ap (λ (r : Run). r .end) is) writes inside
 
-pub sentence-within : (run : Run) (before : List ℕ) {end : ℕ} {after : List ℕ} → end ≡ endAfter sentenceRoom (explanation run) before 0
-    → after ≡ textAfter sentenceRoom (explanation run) before 0 → end ≤ length after
-sentence-within run before ends writes = ends-within sentenceRoom (explanation run) before 0 ends writes zero-le
+pub sentence-within : (run : Run) (before : List ℕ) {end : ℕ} {after : List ℕ} → end ≡ endAfter sentenceRoom (explanation (standing run)) before 0
+    → after ≡ textAfter sentenceRoom (explanation (standing run)) before 0 → end ≤ length after
+sentence-within run before ends writes = ends-within sentenceRoom (explanation (standing run)) before 0 ends writes zero-le

@@ -4,7 +4,7 @@ use Prim.Native.Nat.{ℕ, _+_, _<_}
 use mathlib.Core.Path.{_≡_}
 use mathlib.Core.Bool.{Bool, true, false, cond, _&&_}
 use mathlib.Core.Logic.{_⊎_}
-use mathlib.Core.List.{List, [], _∷_, _++_, map}
+use mathlib.Core.List.{List, [], _∷_, _++_}
 use lib.Dec.{eqb}
 use Rattle.numbers.specs.Limits.{owners}
 use Rattle.numbers.specs.Lists.{total, listBelow}
@@ -13,7 +13,7 @@ use Rattle.numbers.specs.Signs.{positive, negative}
 use Rattle.target.specs.Target.{target}
 use Rattle.settlement.specs.Book.{openShortfall, isShort, fundLeft}
 use Rattle.settlement.specs.Events.{Call, hourCall, monthEndCall, yearEndCall}
-use Rattle.settlement.specs.Ledger.{Entry, asked, bookAt, IsLedger, sumOver, hourCount, monthEndCount, credit}
+use Rattle.settlement.specs.Ledger.{Entry, bookAt, ledgerOf, sumOver, hourCount, monthEndCount, credit}
 use Rattle.settlement.specs.Claim.{Claim}
 use Rattle.hour_block.specs.Block.{amountIn, pricesIn}
 use Rattle.statement_text.specs.Text.{Line, ownerLine, fundLine, refusalLine, eventLines}
@@ -92,14 +92,11 @@ CreditsPrinted printed (entry ∷ past) =
 
 pub record PrintedClaim (file input : List ℕ) (run : Part) : Type 0 where
   -- the calls of the run are "the whole list of hours, month ends and year ends" from a fresh book, and the whole claim holds of them
-  pub ledger : List Entry
-  pub answered : IsLedger ledger
-  pub made : map asked ledger ≡ run .calls
-  pub reached : bookAt ledger ≡ run .book
-  pub claim : Claim ledger
+  pub claim : Claim (ledgerOf (run .calls))
+  pub reached : bookAt (ledgerOf (run .calls)) ≡ run .book
   -- what is printed is the lines of its accepted calls
-  pub prints : run .printed ≡ ledgerLines ledger
-  pub creditsPrinted : CreditsPrinted (run .printed) ledger
+  pub prints : run .printed ≡ ledgerLines (ledgerOf (run .calls))
+  pub creditsPrinted : CreditsPrinted (run .printed) (ledgerOf (run .calls))
   -- "collected plus charges equals credits plus the fund left"
   pub closes : collectedIn input (run .book .hours) + ofOwners (λ owner. sumLines (chargeIn owner) (allLines run))
       ≡ ofOwners (λ owner. sumLines (creditIn owner) (allLines run)) + fundLeft (run .book)

@@ -1,15 +1,12 @@
 // The events of a block, on a run with room for their lines: each is settled on the run's book, and its lines are appended.
-ghost use Prim.Native.Nat.{ℕ, _+_, _≤_};
+ghost use Prim.Native.Nat.{_+_, _≤_};
 ghost use mathlib.Core.Path.{_≡_};
-ghost use mathlib.Core.Bool.{true};
-ghost use mathlib.Core.List.{List};
 ghost use lib.ListN.{length};
 ghost use Rattle.numbers.specs.Limits.{owners};
-ghost use Rattle.numbers.specs.Refusals.{answerBy};
 ghost use Rattle.settlement.specs.Events.{Answered, eventOf};
 ghost use Rattle.statement_text.specs.Text.{eventRoom};
 ghost use Rattle.settlement_run.specs.Run.{andThen, hourPart, ifDue, tagOf};
-ghost use Rattle.settlement_run.specs.Calls.{namesRecord, standing};
+ghost use Rattle.settlement_run.specs.Calls.{standing};
 ghost use Rattle.settlement_run.specs.InnerContracts.{Appended, endCall, endNumber, refusedBy, resultPart};
 use crate::Run;
 use numbers::NODES;
@@ -22,7 +19,6 @@ use settlement::Settled;
 pub(crate) fn settle_hour(run: Run, rights: &[u8], block: &[u8], text: &mut [u8]) -> Run
     requires { ⌜ run .end + eventRoom owners ≤ length (now text) ⌝ }
     ensures { λ r. ⌜ Appended (hourPart (now (rights .entry)) (now (block .entry)) (run .book)) run (now (text .entry)) r (now (text .exit)) ⌝ }
-    ensures { λ r. ⌜ namesRecord (now (rights .entry)) r ≡ true ⌝ }
 {
     let book = run.book;
     let mut prices = [0i32; NODES];
@@ -45,7 +41,6 @@ pub(crate) enum End {
 pub(crate) fn close_if_due(run: Run, end: End, text: &mut [u8]) -> Run
     requires { ⌜ run .end + eventRoom owners ≤ length (now text) ⌝ }
     ensures { λ r. ⌜ Appended (andThen (standing run) (ifDue (endCall end))) run (now (text .entry)) r (now (text .exit)) ⌝ }
-    ensures { λ r. ⌜ ((file : List ℕ) → namesRecord file run ≡ true → namesRecord file r ≡ true) ⌝ }
 {
     if run.refusal != 0 {
         return run;
@@ -108,7 +103,6 @@ fn print_event(
 ) -> Run
     requires { ⌜ (run .end + eventRoom owners ≤ length (now text)) × (length (now lines) ≡ owners) ⌝ }
     ensures { λ r. ⌜ Appended (resultPart tag number settled (now (lines .entry))) run (now (text .entry)) r (now (text .exit)) ⌝ }
-    ensures { λ r. ⌜ r .faulty ≡ answerBy (settled .refusal) 0 (settled .faulty) ⌝ }
 {
     let book = settled.book;
     run.book = book;

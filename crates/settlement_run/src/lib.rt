@@ -4,8 +4,8 @@ ghost use lib.ListN.{length};
 ghost use Rattle.statement_text.specs.Buffer.{endAfter, textAfter};
 ghost use Rattle.statement_text.specs.Sentence.{sentenceRoom};
 ghost use Rattle.statement_text.specs.Text.{lineRoom};
-ghost use Rattle.settlement_run.specs.Calls.{begun, closed, explanation, lacksRoom, lastText, Steps};
-ghost use Rattle.settlement_run.specs.Run.{openingRefusal};
+ghost use Rattle.settlement_run.specs.Calls.{begun, closed, lacksRoom, lastText, standing, steppedRun, steppedText};
+ghost use Rattle.settlement_run.specs.Run.{explanation, openingRefusal};
 use events::End;
 use settlement::Book;
 
@@ -55,7 +55,8 @@ fn opening_refusal(readable: bool, bytes: usize) -> u8
 
 // One block: the hour, and the month end and the year end where they are due. Appends their lines; a run that has stopped stays as it is.
 pub fn step(mut run: Run, rights: &[u8], block: &[u8], text: &mut [u8]) -> Run
-    ensures { λ r. ⌜ Steps (now (rights .entry)) (now (block .entry)) run (now (text .entry)) r (now (text .exit)) ⌝ }
+    ensures { λ r. ⌜ r ≡ steppedRun (now (rights .entry)) (now (block .entry)) run (now (text .entry)) ⌝ }
+    ensures { λ _. ⌜ now (text .exit) ≡ steppedText (now (rights .entry)) (now (block .entry)) run (now (text .entry)) ⌝ }
 {
     run.full = lacks_room(STEP_ROOM, text.len(), run.end);
     if run.full {
@@ -88,8 +89,8 @@ pub fn closing(mut run: Run, text: &mut [u8]) -> Run
 
 // One sentence on the refusal that stopped the run, from the buffer's start; nothing for a run that goes on. Gives the place behind it.
 pub fn explain(run: Run, text: &mut [u8]) -> usize
-    ensures { λ r. ⌜ r ≡ endAfter sentenceRoom (explanation run) (now (text .entry)) 0 ⌝ }
-    ensures { λ _. ⌜ now (text .exit) ≡ textAfter sentenceRoom (explanation run) (now (text .entry)) 0 ⌝ }
+    ensures { λ r. ⌜ r ≡ endAfter sentenceRoom (explanation (standing run)) (now (text .entry)) 0 ⌝ }
+    ensures { λ _. ⌜ now (text .exit) ≡ textAfter sentenceRoom (explanation (standing run)) (now (text .entry)) 0 ⌝ }
 {
     statement_text::write_sentence(run.tag, run.number, run.refusal, run.faulty, text, 0)
 }

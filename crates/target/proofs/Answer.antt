@@ -4,21 +4,22 @@ use Prim.Native.Nat.{ℕ, _<_, _≤_}
 use mathlib.Core.Path.{_≡_, refl, sym, ap, _∙_}
 use mathlib.Core.Bool.{true, false}
 use mathlib.Core.List.{List, [], _++_}
+use native.Mathlib.Decide.{ℕ-discrete}
 use native.Mathlib.Omega.{arith}
 use lib.ListN.{length, getD}
 use lib.IntN.{ℤ, pos}
 use borrow.Author.Tests.{le-leb, lt-leb, eq-eqb, ne-eqb}
 use Rattle.numbers.specs.Limits.{owners}
-use Rattle.numbers.specs.Lists.{listBelow}
+use Rattle.numbers.specs.Lists.{listBelow, IsLowest}
 use Rattle.numbers.specs.Refusals.{firstRefusal}
-use Rattle.numbers.proofs.Refusals.{isWithin, refusal-none, refusal-here, refusal-next, refusal-clear, refusal-append, refusal-rest, answer-accepted}
+use Rattle.numbers.proofs.Refusals.{isWithin, refusal-none, refusal-here, refusal-next, refusal-clear, refusal-append, refusal-rest, refusal-skip, refusal-most, answer-accepted}
 use Rattle.numbers.proofs.Counts.{getD-listBelow, listBelow-ext}
 use Rattle.numbers.proofs.Booleans.{neither-true}
 use Rattle.numbers.proofs.Signed.{sum-none}
 use Rattle.calendar.specs.Year.{hoursInYear, operatingHour}
-use Rattle.rights.specs.Layout.{isWrongLength}
-use Rattle.rights.specs.Faults.{anyFault, faultRows, fileRefusal}
-use Rattle.rights.proofs.Faults.{file-rows, no-faults, some-faults}
+use Rattle.rights.specs.Layout.{recordCount, isWrongLength}
+use Rattle.rights.specs.Faults.{faultAt, anyFault, faultRows, fileRefusal, faultyRecord}
+use Rattle.rights.proofs.Faults.{file-rows, no-faults, some-faults, fault-from-rows, first-faulty}
 use Rattle.target.specs.Rounding.{roundTenths}
 use Rattle.target.specs.Target.{isWrongPriceCount, anyWild, lentRows, targetRefusal, tenths, target, targets, targetLines}
 use Rattle.target.specs.InnerContracts.{Added}
@@ -81,6 +82,23 @@ module _ (file : List ℕ) (prices : List ℤ) (hour lines : ℕ) where
         clean sums pass =
             let none = neither-true (anyFault (length prices) file 7) (anyFault (length prices) file 8) (pass .faults) in
             from-faults ∙ no-faults (length prices) file (none .0) (none .1)
+
+-- a call refused with 7 or 8 names "the lowest one with that fault, all earlier records being free of it"
+pub names-first : (file : List ℕ) (prices : List ℤ) (hour lines k : ℕ) → 7 ≤ k → k ≤ 8 → targetRefusal file prices hour lines ≡ k
+    → IsLowest (faultAt (length prices) file k) (recordCount file) (faultyRecord (length prices) file k)
+unfolding targetRefusal
+names-first file prices hour lines k low high is =
+    first-faulty (length prices) file k low high (fault-from-rows (length prices) file k (λ e. omega arith) (by-lent (ℕ-discrete (firstRefusal (lentRows file prices)) 0)))
+  where
+    rows : firstRefusal (lentRows file prices ++ faultRows (length prices) file) ≡ k
+    rows = refusal-skip k 4 _ _ (λ e. omega arith) (refusal-skip k 3 _ _ (λ e. omega arith) is)
+
+    by-lent : Dec (firstRefusal (lentRows file prices) ≡ 0) → firstRefusal (faultRows (length prices) file) ≡ k
+    by-lent (yes clear) = sym (lent-then file prices clear) ∙ rows
+    by-lent (no some) =
+        absurd
+        (omega
+        (arith, refusal-append (lentRows file prices) (faultRows (length prices) file) some, rows, refusal-most 4 5 (lentRows file prices) (lent-within file prices)))
 
 -- the lines after an accepted call are the targets, and a line is its owner's target
 pub writes-targets : (file : List ℕ) (prices : List ℤ) (hour : ℕ) (before : List ℤ) → targetRefusal file prices hour (length before) ≡ 0

@@ -8,7 +8,7 @@ ghost use Rattle.numbers.specs.Limits.{owners};
 ghost use Rattle.numbers.specs.Lists.{listBelow};
 ghost use Rattle.numbers.specs.Refusals.{firstRefusal};
 ghost use Rattle.rights.specs.Layout.{isGood, isWrongLength, mostSize};
-ghost use Rattle.rights.specs.Faults.{isUnpriced, namesFault};
+ghost use Rattle.rights.specs.Faults.{faultyRecord, isUnpriced};
 ghost use Rattle.target.specs.Rounding.{roundTenths};
 ghost use Rattle.target.specs.InnerContracts.{Added};
 ghost use Rattle.target.specs.Target.{anyWild, counted, isWild, isWrongPriceCount, lentRows, mostPrice, targetLines, targetRefusal, worth};
@@ -30,7 +30,7 @@ pub fn round_tenths(tenths: i64) -> i64
 // The target call: all 64 targets of an hour, or a refusal that leaves the lines as they were.
 pub fn targets(rights: &[u8], prices: &[i32], hour: u64, lines: &mut [i64]) -> Outcome
     ensures { λ r. ⌜ r .refusal ≡ targetRefusal (now (rights .entry)) (now (prices .entry)) hour (length (now (lines .entry))) ⌝ }
-    ensures { λ r. ⌜ namesFault (length (now (prices .entry))) (now (rights .entry)) (r .refusal) (r .faulty) ≡ true ⌝ }
+    ensures { λ r. ⌜ r .faulty ≡ faultyRecord (length (now (prices .entry))) (now (rights .entry)) (r .refusal) ⌝ }
     ensures { λ _. ⌜ now (lines .exit) ≡ targetLines (now (rights .entry)) (now (prices .entry)) hour (now (lines .entry)) ⌝ }
 {
     if calendar::HOURS_IN_YEAR <= hour {

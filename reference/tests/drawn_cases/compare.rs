@@ -108,12 +108,6 @@ impl Drop for Case<'_> {
 pub trait Input {
     /// All of it in plain numbers.
     fn text(&self) -> String;
-
-    /// Whether the record number has the fault of the refusal: "In 7 and 8 the
-    /// record number is that of some record with the fault; which one is free."
-    fn has_fault(&self, _refusal: u64, _record: u64) -> bool {
-        false
-    }
 }
 
 impl Input for String {
@@ -160,13 +154,9 @@ impl<'a> Case<'a> {
         input: &dyn Input,
         before: &Lent,
         library: &Given,
-        mut second: Given,
+        second: Given,
     ) -> Given {
         self.came(call, second.refusal);
-        let record = library.lent.record();
-        if library.refusal == second.refusal && input.has_fault(second.refusal, record) {
-            second.lent.set_record(record);
-        }
         if *library != second {
             let table = table(before, library, &second);
             panic!("{call} differs\n{}\n{table}", input.text());

@@ -95,29 +95,6 @@ impl Lent {
         self.run_cells(end).1
     }
 
-    /// Where a report has the record number: last in a step's, else first.
-    fn record_place(&self) -> usize {
-        match self.report.lent {
-            STEPPED => STEPPED - 1,
-            _ => 0,
-        }
-    }
-
-    /// The record number of a target call, an event or a step.
-    pub fn record(&self) -> u64 {
-        let report = self.report.slice().get(self.record_place()).copied();
-        let settled = self.settled.slice().first().map(|word| *word as u64);
-        settled.or(report).unwrap_or(0)
-    }
-
-    pub fn set_record(&mut self, record: u64) {
-        let place = self.record_place();
-        match self.settled.slice_mut().first_mut() {
-            Some(word) => *word = record as i64,
-            None => self.report.slice_mut()[place] = record,
-        }
-    }
-
     fn rows(&self) -> [Plain; 7] {
         [
             plain("counts", &self.counts),

@@ -17,6 +17,7 @@ mod library;
 
 mod calendar;
 mod call_lists;
+mod faulty_records;
 mod lent_words;
 mod limits;
 mod program_runs;

@@ -12,8 +12,8 @@ use reference::words::{COUNTS, SHORTFALLS, SURPLUSES};
 
 use crate::compare::{Case, Input, Kind};
 use crate::drawn::{
-    block_text, draw_book, draw_market, hour_bytes, lend_book, names_fault, next_day, number_of,
-    old_text, old_words, rights_text, spoil_words, Shape,
+    block_text, draw_book, draw_market, hour_bytes, lend_book, next_day, number_of, old_text,
+    old_words, rights_text, spoil_words, Shape,
 };
 use crate::lent::{Given, Lent, Row};
 use crate::library;
@@ -21,8 +21,8 @@ use crate::single_events::{draw_collected, wants_of};
 
 /// What a step is lent to read.
 pub struct Block {
-    rights: Row<u8>,
-    bytes: Row<u8>,
+    pub rights: Row<u8>,
+    pub bytes: Row<u8>,
 }
 
 /// A block, and the end of the text that its lines are appended to.
@@ -36,10 +36,6 @@ impl Input for Step {
         let rights = rights_text(self.block.rights.slice());
         let block = block_text(self.block.bytes.slice());
         format!("end of the text {}\n{rights}\n{block}", self.end)
-    }
-
-    fn has_fault(&self, refusal: u64, record: u64) -> bool {
-        names_fault(self.block.rights.slice(), MOST_PRICES, refusal, record)
     }
 }
 

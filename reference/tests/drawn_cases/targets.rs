@@ -5,9 +5,7 @@ use reference::draws::Draws;
 use reference::words;
 
 use crate::compare::{Case, Input, Kind};
-use crate::drawn::{
-    draw_market, market_text, names_fault, number_of, old_lines, old_words, Market, Shape,
-};
+use crate::drawn::{draw_market, market_text, number_of, old_lines, old_words, Market, Shape};
 use crate::lent::{Given, Lent};
 use crate::library;
 
@@ -22,11 +20,6 @@ impl Input for Asked {
         let Market { rights, prices } = &self.market;
         let market = market_text(rights.slice(), prices.slice());
         format!("hour {}\n{market}", self.hour)
-    }
-
-    fn has_fault(&self, refusal: u64, record: u64) -> bool {
-        let Market { rights, prices } = &self.market;
-        names_fault(rights.slice(), prices.lent, refusal, record)
     }
 }
 

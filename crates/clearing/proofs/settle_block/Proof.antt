@@ -14,7 +14,7 @@ settle-emptied-requires c κs =
     let called = c .before .before .before .before in
     let start = called .before .before .before .before .before in (
       omega (arith, start .pre, called .step .kept .1 .1 .1 .0),
-      step-within (called .step .ensures) (start .pre .1),
+      step-within (start .args .rights .now) (start .args .block .now) (start .args .run) (start .args .text .now) (called .step .ensures .0) (called .step .ensures .1) (start .pre .1),
     )
 
 same-length : tie.Need-same-length
@@ -29,7 +29,7 @@ same-length-2 c = search needs
 returns-2 : tie.Need-returns-2
 returns-2 c =
     let called = c .before .before .before .before in
-    let start = called .before .before .before .before .before in (c .before .if1 .left, step-within (called .step .ensures) (start .pre .1))
+    let start = called .before .before .before .before .before in (c .before .if1 .left, step-within (start .args .rights .now) (start .args .block .now) (start .args .run) (start .args .text .now) (called .step .ensures .0) (called .step .ensures .1) (start .pre .1))
 
 pub settle-block-spec : {M : Type 1} → statement M
 settle-block-spec =

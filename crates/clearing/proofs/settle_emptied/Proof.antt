@@ -1,11 +1,13 @@
 -- `clearing::settle_emptied` meets its contract: an empty buffer has room for a step.
 -- Assumes nothing.
 use Prim.Native.Nat.{_+_}
+use mathlib.Core.Path.{ap, _∙_}
 use native.Mathlib.Omega.{arith}
 use lib.ListN.{length}
-use Rattle.settlement_run.specs.Calls.{stepRoom}
-use mathlib.Core.Path.{_∙_}
 use borrow.Author.Tests.{le-ltb}
+use Rattle.settlement_run.specs.declared.Run.{Run}
+use Rattle.settlement_run.specs.Calls.{stepRoom}
+use Rattle.settlement_run.specs.Turns.{emptied}
 use Rattle.settlement_run.proofs.Within.{step-within}
 use borrow.Author.Needs.{needs}
 use Rattle.clearing.proofs.settle_emptied.Statement.{statement}
@@ -24,8 +26,8 @@ returns : tie.Need-returns
 returns c =
     let called = c .before .before .before in
     let start = called .before .before .before .before .before .before .before in (
-      called .step .ensures .full ∙ le-ltb (length (start .args .text .now)) (0 + stepRoom) (omega (arith, start .pre)),
-      step-within (called .step .ensures) (omega arith),
+      ap (λ (r : Run). r .full) (called .step .ensures .0) ∙ le-ltb (length (start .args .text .now)) (0 + stepRoom) (omega (arith, start .pre)),
+      step-within (start .args .rights .now) (start .args .block .now) (emptied (start .args .run)) (start .args .text .now) (called .step .ensures .0) (called .step .ensures .1) (omega arith),
     )
 
 pub settle-emptied-spec : {M : Type 1} → statement M

@@ -68,7 +68,7 @@ write-book-requires c κs =
     let called = c .before .before .before .before .before .before in
     let stood = called .before .before in (
       words-clear steppedWords _ _ (clear (stood .before .before .before .before .before)) .0,
-      step-fits (called .step .ensures) (run-fits (stood .run-from .ensures) (stood .before .book-from .ensures .1)),
+      step-fits (start-2 (asked called) .args .rights .now) (start-2 (asked called) .args .block .now) (stood .run-from .result) (start-2 (asked called) .args .text .now) (called .step .ensures .0) (run-fits (stood .run-from .ensures) (stood .before .book-from .ensures .1)),
     )
 
 write-stepped-requires-2 : tie.Need-write-stepped-requires-2
@@ -98,7 +98,7 @@ returns-2 c =
     let s = start-2 (asked called) in
     let written = put .write-book .ensures in
     taken-step (s .args .rights .now) (s .args .block .now) (words s) (s .args .text .now) (s .args .end) (s .args .report .now) (clear (stood .before .before .before .before .before))
-    (run-of-words (words s) (stood .run-from .ensures) (stood .before .book-from .ensures .0)) (called .step .ensures) (told .write-stepped2 .ensures)
+    (run-of-words (words s) (stood .run-from .ensures) (stood .before .book-from .ensures .0)) (called .step .ensures .0) (called .step .ensures .1) (told .write-stepped2 .ensures)
     (λ i. wordsIn (written .0 i) (written .1 .0 i) (written .1 .1 i))
 
 pub pupcopper-step-spec : {M : Type 1} → statement M

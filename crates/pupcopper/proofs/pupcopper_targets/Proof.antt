@@ -1,20 +1,19 @@
 -- `pupcopper::pupcopper_targets` meets its contract: the target call's number and lines, and its record number in the report.
 -- Assumes nothing.
 use Prim.Native.Nat.{ℕ}
-use mathlib.Core.Path.{_≡_, sym, ap, subst, _∙_}
-use mathlib.Core.Bool.{true}
-use mathlib.Core.List.{List, [], _∷_}
-use lib.ListN.{length, getD}
+use mathlib.Core.Path.{ap, _∙_}
+use mathlib.Core.List.{[], _∷_}
+use lib.ListN.{length}
 use borrow.Author.Needs.{needs}
-use Rattle.rights.specs.Faults.{namesFault}
-use Rattle.pupcopper.proofs.ReportWords.{wrong-number, right-number, wrong-kept, right-given, written-all, wrong-own}
+use Rattle.rights.specs.Faults.{faultyRecord}
+use Rattle.pupcopper.proofs.ReportWords.{wrong-number, right-number, wrong-kept, right-given, written-all}
 use Rattle.pupcopper.proofs.pupcopper_targets.Statement.{statement}
 use Rattle.pupcopper.proofs.pupcopper_targets.Tie as tie
 
 returns : tie.Need-returns
 returns c = (
   wrong-number 1 _ _ (c .if1 .taken),
-  (wrong-kept 1 _ _ _ (c .if1 .taken), (wrong-kept 1 _ _ _ (c .if1 .taken), λ z. absurd (wrong-own 1 _ (c .if1 .taken) z))),
+  (wrong-kept 1 _ _ _ (c .if1 .taken), wrong-kept 1 _ _ _ (c .if1 .taken)),
 )
 
 targets-requires : tie.Need-targets-requires
@@ -34,17 +33,13 @@ returns-2 c =
     let called = c .before in
     let fits = called .before .before .if1 .left in
     let s = called .before .before .before .before .before in
-    let before = s .args .report .now in
-    let written = written-all (called .targets .result .faulty ∷ []) before fits in
-    let named = ap (λ (report : List ℕ). getD report 0 0) written in (
-      called .targets .ensures .0 ∙ right-number 1 _ _ fits,
+    let is = called .targets .ensures in (
+      is .0 ∙ right-number 1 _ _ fits,
       (
-        called .targets .ensures .1 .1 ∙ right-given 1 _ _ _ fits,
-        (
-          written ∙ ap (λ (n : ℕ). n ∷ []) (sym named) ∙ right-given 1 _ _ _ fits,
-          λ _.
-              subst (λ (n : ℕ). namesFault (length (s .args .prices .now)) (s .args .rights .now) (called .targets .result .refusal) n ≡ true) (sym named) (called .targets .ensures .1 .0),
-        ),
+        is .1 .1 ∙ right-given 1 _ _ _ fits,
+        written-all (called .targets .result .faulty ∷ []) (s .args .report .now) fits
+            ∙ ap (λ (n : ℕ). n ∷ []) (is .1 .0 ∙ ap (faultyRecord (length (s .args .prices .now)) (s .args .rights .now)) (is .0))
+            ∙ right-given 1 _ _ _ fits,
       ),
     )
 

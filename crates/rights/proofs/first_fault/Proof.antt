@@ -1,7 +1,7 @@
 -- `rights::first_fault` meets its contract: no record before the present one has the fault.
 -- Assumes nothing.
 use Prim.Native.Nat.{ℕ, _≤_, _-_, _/_}
-use mathlib.Core.Path.{_≡_, ap, sym, _∙_}
+use mathlib.Core.Path.{_≡_, sym, ap, subst, _∙_}
 use mathlib.Core.Bool.{Bool, false}
 use native.Mathlib.Omega.{arith}
 use mathlib.Core.List.{List}
@@ -9,8 +9,9 @@ use lib.ListN.{length}
 use borrow.Author.Needs.{needs}
 use Rattle.numbers.specs.Lists.{anyBelow}
 use Rattle.numbers.proofs.Any.{any-none, any-more}
+use Rattle.numbers.proofs.Lowest.{lowest-none, lowest-only}
 use Rattle.rights.specs.declared.Right.{Right}
-use Rattle.rights.specs.Layout.{rightAt}
+use Rattle.rights.specs.Layout.{recordCount, rightAt}
 use Rattle.rights.specs.Faults.{faultAt, hasFault}
 use Rattle.rights.proofs.first_fault.Statement.{statement}
 use Rattle.rights.proofs.first_fault.Tie as tie
@@ -42,11 +43,12 @@ has-fault-requires c κs = search needs
 
 returns : tie.Need-returns Inv-loop μ-loop
 returns c =
-    record {
-      within = search needs;
+    lowest-only _ _ _
+    (record {
+      inside = search needs;
+      here = fault-is _ _ _ _ _ _ (c .before .before .decode .ensures) (c .before .has-fault .ensures) ∙ c .if1 .taken;
       before = c .before .before .before .before .loop .inv .1;
-      here = λ _. fault-is _ _ _ _ _ _ (c .before .before .decode .ensures) (c .before .has-fault .ensures) ∙ c .if1 .taken;
-    }
+    })
 
 add-number : tie.Need-add-number Inv-loop μ-loop
 add-number c = omega arith
@@ -63,7 +65,12 @@ loop-again c = (
 
 returns-2 : tie.Need-returns-2 Inv-loop μ-loop
 returns-2 c =
-    record { within = c .before .loop .inv .0; before = c .before .loop .inv .1; here = λ h. absurd (omega arith) }
+    let s = c .before .before .before .args in
+    let all : c .before .loop .number ≡ recordCount (s .file .now) = omega (arith, c .before .loop .inv .0) in
+    all
+    ∙ sym
+    (lowest-none (faultAt (s .prices) (s .file .now) (s .refusal)) (recordCount (s .file .now))
+    (subst (λ (n : ℕ). anyBelow (faultAt (s .prices) (s .file .now) (s .refusal)) n ≡ false) all (c .before .loop .inv .1)))
 
 pub first-fault-spec : {M : Type 1} → statement M
 first-fault-spec =

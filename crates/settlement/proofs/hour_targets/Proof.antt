@@ -11,7 +11,7 @@ use mir.ValLaws.{toZ-ofZ}
 use borrow.Author.Tests.{ltb-true}
 use Rattle.numbers.specs.Limits.{owners}
 use Rattle.numbers.proofs.Booleans.{both-true}
-use Rattle.rights.proofs.Faults.{names-none}
+use Rattle.rights.proofs.Faults.{faulty-none}
 use Rattle.target.specs.Target.{targetRefusal}
 use Rattle.target.proofs.Answer.{writes-targets}
 use Rattle.settlement.specs.Events.{isWildAmount}
@@ -62,7 +62,7 @@ returns-2 c =
     let s = c .before in
     let a = start-2 s .args in (
       at-amount (a .rights .now) (a .prices .now) (a .collected) (a .hour) (start-2 s .pre .0) _ (called (asked s)) (s .if1 .left) (wild s true (c .if2 .taken)),
-      (names-none _ _ 6 (omega arith), λ none. absurd (omega arith)),
+      (sym (faulty-none _ _ 6 (omega arith)), λ none. absurd (omega arith)),
     )
 
 returns-3 : tie.Need-returns-3

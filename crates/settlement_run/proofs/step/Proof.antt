@@ -45,14 +45,14 @@ settle-hour-requires c κs = omega (arith, room (c .before))
 close-if-due-requires : tie.Need-close-if-due-requires
 close-if-due-requires c κs =
     let hour = c .before .before .before in
-    omega (arith, room (hour .before .before), hour .settle-hour .ensures .0 .short, hour .settle-hour .kept .1 .1 .1 .0)
+    omega (arith, room (hour .before .before), hour .settle-hour .ensures .short, hour .settle-hour .kept .1 .1 .1 .0)
 
 close-if-due-requires-2 : tie.Need-close-if-due-requires-2
 close-if-due-requires-2 c κs =
     let month = c .before .before .before in
     let hour = month .before .before .before .before in
     omega
-    (arith, room (hour .before .before), hour .settle-hour .ensures .0 .short, hour .settle-hour .kept .1 .1 .1 .0, month .close-if-due .ensures .0 .short, month .close-if-due .kept .1 .1 .0)
+    (arith, room (hour .before .before), hour .settle-hour .ensures .short, hour .settle-hour .kept .1 .1 .1 .0, month .close-if-due .ensures .short, month .close-if-due .kept .1 .1 .0)
 
 same-length : tie.Need-same-length
 same-length c = search needs
@@ -66,8 +66,7 @@ returns-3 c =
     let found = looked begun in
     let s = start-of found .args in
     step-settled (s .rights .now) (s .block .now) (s .run) (s .text .now) (found .lacks-room .result) (found .lacks-room .ensures)
-    (begun .before .before .if1 .left) (begun .if2 .left) (hour .settle-hour .ensures .0) (month .close-if-due .ensures .0) (year .close-if-due2 .ensures .0)
-    (year .close-if-due2 .ensures .1 (s .rights .now) (month .close-if-due .ensures .1 (s .rights .now) (hour .settle-hour .ensures .1)))
+    (begun .before .before .if1 .left) (begun .if2 .left) (hour .settle-hour .ensures) (month .close-if-due .ensures) (year .close-if-due2 .ensures)
 
 pub step-spec : {M : Type 1} → statement M
 step-spec =

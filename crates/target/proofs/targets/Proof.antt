@@ -15,8 +15,8 @@ use Rattle.numbers.proofs.Refusals.{answer-refused, refusal-most}
 use Rattle.numbers.proofs.Counts.{length-listBelow}
 use Rattle.calendar.specs.Year.{operatingHour}
 use Rattle.rights.specs.declared.Outcome.{Outcome}
-use Rattle.rights.specs.Faults.{namesFault}
-use Rattle.rights.proofs.Faults.{names-none}
+use Rattle.rights.specs.Faults.{faultyRecord}
+use Rattle.rights.proofs.Faults.{faulty-none}
 use Rattle.target.specs.Target.{lentRows, tenths, targetRefusal, targetLines}
 use Rattle.target.specs.InnerContracts.{Added}
 use Rattle.target.proofs.Answer.{lent-within, lent-clear, out-of-year, wrong-lines, from-lent, from-file, faulty, clean, writes-targets, pass-targets}
@@ -28,11 +28,11 @@ use Rattle.target.proofs.targets.Tie as tie
 refuses : (file : List ℕ) (prices : List ℤ) (hour : ℕ) (lines : List ℤ) (number : ℕ) (r : Outcome) → (r .refusal ≡ number) × (r .faulty ≡ 0)
     → targetRefusal file prices hour (length lines) ≡ number → (number ≡ 0 → ⊥) → number < 7
     → (r .refusal ≡ targetRefusal file prices hour (length lines))
-    × ((namesFault (length prices) file (r .refusal) (r .faulty) ≡ true) × (lines ≡ targetLines file prices hour lines))
+    × ((r .faulty ≡ faultyRecord (length prices) file (r .refusal)) × (lines ≡ targetLines file prices hour lines))
 unfolding targetLines
 refuses file prices hour lines number r is e some small = (
   is .0 ∙ sym e,
-  (rw (is .0, is .1) (names-none (length prices) file number small), sym (answer-refused _ _ _ (λ z. some (sym e ∙ z)))),
+  (is .1 ∙ sym (ap (faultyRecord (length prices) file) (is .0) ∙ faulty-none (length prices) file number small), sym (answer-refused _ _ _ (λ z. some (sym e ∙ z)))),
 )
 
 -- the places on the way: in the year with 64 lines, and what is lent is right
@@ -130,7 +130,7 @@ returns-5 c =
     let z = clean (a .rights .now) (a .prices .now) (a .hour) _ (omega arith) (all-lines (e .before .before)) (clear e) _ (clean-pass s) in (
       c .without-record4 .ensures .0 ∙ sym z,
       (
-        rw (c .without-record4 .ensures .0, c .without-record4 .ensures .1) (names-none _ _ 0 (omega arith)),
+        c .without-record4 .ensures .1 ∙ sym (ap (faultyRecord _ _) (c .without-record4 .ensures .0) ∙ faulty-none _ _ 0 (omega arith)),
         c .before .before .write-targets .ensures
             ∙ pass-targets _ _ _ _ (clean-pass s)
             ∙ sym (writes-targets (a .rights .now) (a .prices .now) (a .hour) _ z),

@@ -2,8 +2,7 @@
 
 use reference::book::HourInput;
 use reference::draws::Draws;
-use reference::refusal::{BAD_RIGHT, UNPRICED_NODE};
-use reference::rights::{decode, encode, is_bad, is_unpriced, records, Right, RECORD};
+use reference::rights::{encode, records, Right, RECORD};
 use reference::words::Event;
 
 use crate::compare::Input;
@@ -187,17 +186,6 @@ pub fn market_text(rights: &[u8], prices: &[i32]) -> String {
     format!("{}\n{count} prices: {prices:?}", rights_text(rights))
 }
 
-/// Whether the record is lent and has the fault of refusal 7 or 8.
-pub fn names_fault(rights: &[u8], prices: usize, refusal: u64, record: u64) -> bool {
-    let at = usize::try_from(record).unwrap_or(usize::MAX);
-    let bytes = rights.chunks_exact(RECORD).nth(at);
-    match (refusal, bytes.map(decode)) {
-        (BAD_RIGHT, Some(right)) => is_bad(&right),
-        (UNPRICED_NODE, Some(right)) => is_unpriced(&right, prices),
-        _ => false,
-    }
-}
-
 impl Input for Event<'_> {
     fn text(&self) -> String {
         match self {
@@ -207,13 +195,6 @@ impl Input for Event<'_> {
                 collected,
             }) => format!("collected {collected}\n{}", market_text(rights, prices)),
             Event::MonthEnd | Event::YearEnd => String::from("no input but the book"),
-        }
-    }
-
-    fn has_fault(&self, refusal: u64, record: u64) -> bool {
-        match self {
-            Event::Hour(input) => names_fault(input.rights, input.prices.len(), refusal, record),
-            Event::MonthEnd | Event::YearEnd => false,
         }
     }
 }

@@ -178,8 +178,8 @@ fn other_corners() -> Vec<Corner> {
 fn compare_corner(case: &mut Case, corners: &[Corner]) {
     let corner = corners.get(case.seed as usize);
     let Corner { name, last, run } = corner.expect("the seed is the number of a corner");
-    let text = compare_run(case, &run());
-    let line = text.lines().last().unwrap_or("");
+    let printed = compare_run(case, &run());
+    let line = printed.statement.lines().last().unwrap_or("");
     let same = line == *last || (*last == "F" && line.starts_with("F "));
     assert!(same, "{name}: the last line is {line}, not {last}");
 }

@@ -47,8 +47,8 @@ const RUNS: u64 = 4;
 fn folder_of(case: &Case) -> Folder {
     let run = run_of(case.seed);
     let folder = Folder::new(case, &run);
-    let (statement, _) = second_printed(&folder, &run.hours);
-    assert_eq!(statement.len() > 2 * BUFFER, case.seed == 0);
+    let second = second_printed(&folder, &run.hours);
+    assert_eq!(second.statement.len() > 2 * BUFFER, case.seed == 0);
     folder
 }
 

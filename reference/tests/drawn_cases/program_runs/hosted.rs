@@ -9,7 +9,7 @@ use reference::step::HOUR_BYTES;
 use reference::words::{CLOSED, COUNTS, SENTENCE_ROOM, SHORTFALLS, STEPPED, STEP_ROOM, SURPLUSES};
 
 use super::drawn::{draw_run, draw_year};
-use super::run::{assert_same, second_errors, Printed, Run};
+use super::run::{assert_same, Printed, Run};
 use crate::compare::{Case, Kind};
 use crate::drawn::{old_lines, old_text, old_words};
 use crate::lent::Lent;
@@ -126,7 +126,7 @@ fn compare_hosted(case: &mut Case, run: &Run) {
     let stopped = second.expect("bytes can be read and written");
     let second = Printed {
         statement: text(statement),
-        errors: second_errors(run, stopped, &hosted.errors),
+        errors: stopped.sentence(),
     };
     assert_same(run, &hosted, &second);
     case.came("hosted run", stopped.refusal);

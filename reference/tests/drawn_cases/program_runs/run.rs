@@ -8,12 +8,10 @@ use std::process::{ChildStdin, Command, Stdio};
 use reference::make_year::{self, Year};
 use reference::program;
 use reference::rights::{encode, Right, RECORD};
-use reference::sentence::Stopped;
 use reference::step::HOUR_BYTES;
-use reference::target::MOST_PRICES;
 
 use crate::compare::Case;
-use crate::drawn::{block_text, names_fault, rights_text};
+use crate::drawn::{block_text, rights_text};
 
 /// What a run is given: the bytes of `ftr.bin`, unless it is missing, and those
 /// of the standard input.
@@ -133,33 +131,16 @@ fn printed(folder: &Folder, hours: &[u8], piped: bool) -> Printed {
     }
 }
 
-/// What the second calculation prints, and what stopped it.
-pub fn second_printed(folder: &Folder, hours: &[u8]) -> (String, Stopped) {
+/// What the second calculation prints.
+pub fn second_printed(folder: &Folder, hours: &[u8]) -> Printed {
     let rights = program::read_rights(&folder.0.join("ftr.bin"));
     let mut output = Vec::new();
     let run = program::run(rights.as_deref(), &mut &hours[..], &mut output);
     let stopped = run.expect("bytes can be read and written");
-    let statement = String::from_utf8(output).expect("text is written");
-    (statement, stopped)
-}
-
-/// The record number in a sentence on 7 or 8.
-fn record_in(sentence: &str) -> Option<u64> {
-    let (_, record) = sentence.split_once(", record ")?;
-    record.strip_suffix(".\n")?.parse().ok()
-}
-
-/// The second calculation's sentence. In 7 it names the program's record if that
-/// has the fault: "which one is free".
-pub fn second_errors(run: &Run, stopped: Stopped, errors: &str) -> String {
-    let rights = run.rights.as_deref().unwrap_or_default();
-    let faulty = |record: &u64| names_fault(rights, MOST_PRICES, stopped.refusal, *record);
-    let record = record_in(errors).filter(faulty);
-    let named = Stopped {
-        record: record.unwrap_or(stopped.record),
-        ..stopped
-    };
-    named.sentence()
+    Printed {
+        statement: String::from_utf8(output).expect("text is written"),
+        errors: stopped.sentence(),
+    }
 }
 
 /// The lines at the start that are the same.
@@ -217,21 +198,19 @@ pub fn assert_same(run: &Run, program: &Printed, second: &Printed) {
     panic!("the runs differ\n{rights}\n{hours}{lines}{errors}");
 }
 
-/// Runs both on the same input; gives the statement that they print.
-pub fn compare_run(case: &mut Case, run: &Run) -> String {
+/// Runs both on the same input; gives what they print.
+pub fn compare_run(case: &mut Case, run: &Run) -> Printed {
     let folder = Folder::new(case, run);
     // A pipe is slow with a whole year.
     let piped = case.seed % 2 == 1 && run.hours.len() < 4_000_000;
     let program = printed(&folder, &run.hours, piped);
-    let (statement, stopped) = second_printed(&folder, &run.hours);
-    let errors = second_errors(run, stopped, &program.errors);
-    let second = Printed { statement, errors };
+    let second = second_printed(&folder, &run.hours);
     assert_same(run, &program, &second);
-    let statement = second.statement;
-    case.came("run", refusal_of(&statement));
+    let statement = &second.statement;
+    case.came("run", refusal_of(statement));
     for (letter, event) in [("M ", "month that pays"), ("Y ", "year that pays")] {
         let paid = statement.lines().any(|line| line.starts_with(letter));
         case.came(event, u64::from(paid));
     }
-    statement
+    second
 }

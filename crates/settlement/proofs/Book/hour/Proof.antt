@@ -16,18 +16,17 @@ use Rattle.numbers.specs.Refusals.{firstRefusal}
 use Rattle.numbers.specs.Signs.{positive}
 use Rattle.numbers.proofs.Refusals.{refusal-most, refusal-never}
 use Rattle.calendar.specs.Year.{hoursInYear}
-use Rattle.rights.specs.Faults.{namesFault}
-use Rattle.rights.proofs.Faults.{names-none, names-other}
+use Rattle.rights.proofs.Faults.{faulty-other}
 use Rattle.settlement.specs.declared.Event.the-variants.{Hour}
 use Rattle.settlement.specs.declared.payment.Shares.{Shares}
 use Rattle.settlement.specs.Book.{isSpoiled, mostCollected}
-use Rattle.settlement.specs.Events.{Call, hourCall, nextTargets, hourWants, hourCharges, hourFund, wants, fund, demand, hourLines, lines, bookAfterHour, bookAfter, eventRows, inputRows, sizeRows, refusal, namesRecord}
+use Rattle.settlement.specs.Events.{Call, hourCall, nextTargets, hourWants, hourCharges, hourFund, wants, fund, demand, hourLines, lines, bookAfterHour, bookAfter, eventRows, inputRows, sizeRows, refusal, recordOf}
 use Rattle.settlement.specs.InnerContracts.{sharesOf, HourShares}
 use Rattle.settlement.proofs.NotSpoiled.{shortfalls-within, surplus-within}
 use Rattle.settlement.proofs.LineSigns.{amount-most}
 use Rattle.settlement.proofs.Paying.{payment-small, left-small}
 use Rattle.settlement.proofs.SharingOut.{size-clear}
-use Rattle.settlement.proofs.Refusing.{event-within, event-clear, in-turn, from-event, from-own, calm-amount, own-input, own-size, refused-answer, accepted-answer}
+use Rattle.settlement.proofs.Refusing.{event-within, event-clear, in-turn, from-event, from-own, calm-amount, own-input, own-size, record-none, refused-answer, accepted-answer}
 use Rattle.settlement.proofs.Book.hour.Statement.{statement}
 use Rattle.settlement.proofs.Book.hour.Tie as tie
 
@@ -122,13 +121,13 @@ size-is c =
     ∙ own-size (a .rights .now) (a .prices .now) (a .collected) (a .self) (given (asked c)))
 
 -- a size names no record
-unnamed : (c : tie.After-share-out)
-    → namesFault (length (start-3 c .args .prices .now)) (start-3 c .args .rights .now) (c .share-out .result .refusal) 0 ≡ true
-unfolding sizeRows
+unnamed : (c : tie.After-share-out) → 0 ≡ recordOf (event (start-3 c)) (c .share-out .result .refusal)
+unfolding recordOf sizeRows
 unnamed c =
-    names-other _ _ _
+    sym
+    (faulty-other _ _ _
     (λ e. refusal-never 7 _ (omega arith) refl (sym (shared c .number) ∙ e))
-    (λ e. refusal-never 8 _ (omega arith) refl (sym (shared c .number) ∙ e))
+    (λ e. refusal-never 8 _ (omega arith) refl (sym (shared c .number) ∙ e)))
 
 shares-are : (c : tie.Else3)
     → sized c .share-out .result ≡ sharesOf (start-4 c .args .self) (positive (start-4 c .args .collected)) (aims (start-4 c))
@@ -143,7 +142,6 @@ refused-requires : tie.Need-refused-requires
 refused-requires c κs = search needs
 
 returns : tie.Need-returns
-unfolding namesRecord
 returns c =
     let s = c .before .before in
     let a = s .before .before .args in
@@ -151,7 +149,8 @@ returns c =
     refused-answer (event (s .before .before)) (a .self) (a .lines .now) _ 0 _
     (is ∙ from-event (event (s .before .before)) (a .self) (length (a .lines .now)) (λ z. c .before .if1 .taken (is ∙ z)))
     (c .before .if1 .taken)
-    (names-none _ _ _ (omega (arith, is, refusal-most 1 4 (eventRows Hour (a .self) (length (a .lines .now))) (event-within Hour (a .self) (length (a .lines .now))))))
+    (sym
+    (record-none (event (s .before .before)) _ (omega (arith, is, refusal-most 1 4 (eventRows Hour (a .self) (length (a .lines .now))) (event-within Hour (a .self) (length (a .lines .now)))))))
     (c .refused .ensures)
 
 hour-targets-requires : tie.Need-hour-targets-requires
@@ -161,7 +160,7 @@ refused-requires-2 : tie.Need-refused-requires-2
 refused-requires-2 c κs = search needs
 
 returns-2 : tie.Need-returns-2
-unfolding namesRecord
+unfolding recordOf
 returns-2 c =
     let s = c .before .before .before in
     let e = s .before .before in
@@ -186,7 +185,6 @@ refused-requires-3 : tie.Need-refused-requires-3
 refused-requires-3 c κs = search needs
 
 returns-3 : tie.Need-returns-3
-unfolding namesRecord
 returns-3 c =
     let s = c .before .before .before in
     let a = start-3 s .args in
@@ -215,7 +213,7 @@ same-length : tie.Need-same-length
 same-length c = search needs
 
 returns-4 : tie.Need-returns-4
-unfolding namesRecord fund demand wants lines bookAfter
+unfolding fund demand wants lines bookAfter
 returns-4 c =
     let s = c .before .before .before .before .before .before in
     let a = start-4 s .args in
@@ -223,7 +221,6 @@ returns-4 c =
     let after = c .hour .ensures ∙ ap (λ (x : Shares). bookAfterHour (a .self) (x .monthshort) (x .left)) shares in
     accepted-answer (event (start-4 s)) (a .self) (a .lines .now) _ _
     (sym (size-is (sized s)) ∙ s .if3 .left)
-    (names-none _ _ 0 (omega arith))
     (λ i. record { refusal = 0; faulty = 0; fund = shares i .fund; demand = shares i .demand; book = after i })
     (c .before .before .before .write-hour .ensures
     ∙ ap₂ (λ (ts : List ℤ) (ps : List ℕ). hourLines ts ps) (aimed (asked (sized s))) (ap (λ (x : Shares). x .payments) shares))

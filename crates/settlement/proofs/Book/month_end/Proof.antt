@@ -14,7 +14,7 @@ use Rattle.settlement.specs.declared.Book.{Book}
 use Rattle.settlement.specs.declared.Event.the-variants.{MonthEnd}
 use Rattle.settlement.specs.declared.payment.Paid.{Paid}
 use Rattle.settlement.specs.Book.{isSpoiled, allShortfalls}
-use Rattle.settlement.specs.Events.{monthEndCall, wants, fund, demand, lines, addedTo, bookAfterMonth, bookAfter, ownRows, refusal, namesRecord}
+use Rattle.settlement.specs.Events.{monthEndCall, wants, fund, demand, lines, addedTo, bookAfterMonth, bookAfter, ownRows, refusal, recordOf}
 use Rattle.settlement.specs.InnerContracts.{paidFrom}
 use Rattle.settlement.proofs.NotSpoiled.{in-step, months-within, shortfalls-within, surplus-within}
 use Rattle.settlement.proofs.Paying.{unpaid-small, left-small}
@@ -38,8 +38,8 @@ turn : (c : tie.After-of-event)
 unfolding ownRows
 turn c = c .of-event .ensures ∙ event-alone monthEndCall (c .before .args .self) (length (c .before .args .lines .now)) refl
 
-names : (number : ℕ) → namesRecord monthEndCall number 0 ≡ true
-unfolding namesRecord
+names : (number : ℕ) → 0 ≡ recordOf monthEndCall number
+unfolding recordOf
 names number = refl
 
 -- what holds of the book and the lines where nothing is refused
@@ -111,7 +111,6 @@ returns-2 c =
     c .month .ensures ∙ ap₂ (λ (ys : List ℕ) (rest : ℕ). bookAfterMonth b ys rest) cells (ap (λ (x : Paid). x .left) (paid s)) in
     accepted-answer monthEndCall b (start e .args .lines .now) _ _
     (sym (turn (e .before)) ∙ e .if1 .left)
-    (names 0)
     (λ i. record { refusal = 0; faulty = 0; fund = b .monthsurplus; demand = sum i; book = after i })
     (s .close .ensures .1)
 

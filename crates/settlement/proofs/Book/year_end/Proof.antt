@@ -11,7 +11,7 @@ use Rattle.numbers.specs.Lists.{total}
 use Rattle.settlement.specs.declared.Event.the-variants.{YearEnd}
 use Rattle.settlement.specs.declared.payment.Paid.{Paid}
 use Rattle.settlement.specs.Book.{isSpoiled, allShortfalls}
-use Rattle.settlement.specs.Events.{yearEndCall, wants, fund, demand, lines, bookAfterYear, bookAfter, ownRows, refusal, namesRecord}
+use Rattle.settlement.specs.Events.{yearEndCall, wants, fund, demand, lines, bookAfterYear, bookAfter, ownRows, refusal, recordOf}
 use Rattle.settlement.proofs.NotSpoiled.{shortfalls-within}
 use Rattle.settlement.proofs.Refusing.{event-clear, event-alone, refused-answer, accepted-answer}
 use Rattle.settlement.proofs.Book.year_end.Statement.{statement}
@@ -30,8 +30,8 @@ turn : (c : tie.After-of-event)
 unfolding ownRows
 turn c = c .of-event .ensures ∙ event-alone yearEndCall (c .before .args .self) (length (c .before .args .lines .now)) refl
 
-names : (number : ℕ) → namesRecord yearEndCall number 0 ≡ true
-unfolding namesRecord
+names : (number : ℕ) → 0 ≡ recordOf yearEndCall number
+unfolding recordOf
 names number = refl
 
 -- what holds of the book and the lines where nothing is refused
@@ -78,7 +78,6 @@ returns-2 c =
     let after = c .year .ensures ∙ ap (λ (x : Paid). bookAfterYear b (x .unpaid) (x .left)) (s .close .ensures .0) in
     accepted-answer yearEndCall b (start e .args .lines .now) _ _
     (sym (turn (e .before)) ∙ e .if1 .left)
-    (names 0)
     (λ i. record { refusal = 0; faulty = 0; fund = b .yearsurplus; demand = sum i; book = after i })
     (s .close .ensures .1)
 

@@ -1,34 +1,18 @@
 -- `settlement_run::events::close_if_due` meets its contract: the end where it is due, nothing where it is not or the run has stopped.
 -- Assumes nothing.
-use Prim.Native.Nat.{ℕ}
 use mathlib.Core.Path.{_≡_, refl, sym, ap, _∙_}
-use mathlib.Core.Bool.{true}
-use native.Mathlib.Omega.{arith}
 use borrow.Author.Tests.{not-true, not-false}
 use Rattle.settlement.specs.declared.Book.{Book}
 use Rattle.settlement.specs.declared.Event.{Event}
-use Rattle.settlement.specs.Events.{eventOf, isDue, namesRecord as namesEvent}
-use Rattle.settlement.proofs.Amounts.{named-within}
+use Rattle.settlement.specs.Events.{eventOf, isDue}
 use Rattle.settlement_run.specs.declared.events.End.{End}
 use Rattle.settlement_run.specs.declared.events.End.the-variants.{Month, Year}
-use Rattle.settlement_run.specs.declared.Run.{Run}
-use Rattle.settlement_run.specs.Run.{tagOf, numberOf}
-use Rattle.settlement_run.specs.Calls.{namesRecord}
+use Rattle.settlement_run.specs.Run.{numberOf}
 use Rattle.settlement_run.specs.InnerContracts.{endCall, endNumber}
 use Rattle.settlement_run.proofs.Appending.{result-as, event-ends, appended-as, appended-stopped, not-due, when-due}
-use Rattle.settlement_run.proofs.Naming.{names-other}
 use borrow.Author.Needs.{needs}
 use Rattle.settlement_run.proofs.events.close_if_due.Statement.{statement}
 use Rattle.settlement_run.proofs.events.close_if_due.Tie as tie
-
--- neither end is an hour, nor names a record
-no-hour : (end : End) → tagOf (endCall end) ≡ 72 → ⊥
-no-hour Month is = omega arith
-no-hour Year is = omega arith
-
-no-record : (end : End) (number faulty : ℕ) → namesEvent (endCall end) number faulty ≡ true → faulty ≡ 0
-no-record Month number faulty named = omega (arith, named-within (endCall Month) number faulty named)
-no-record Year number faulty named = omega (arith, named-within (endCall Year) number faulty named)
 
 -- the number beside its lines
 number-is : (end : End) (book : Book) → endNumber end (book .months) ≡ numberOf (endCall end) book
@@ -42,8 +26,7 @@ asked-due : (c : tie.After-is-due)
 asked-due c = c .is-due .ensures ∙ ap (λ (e : Event). isDue e (c .before .before .before .before .before .before .args .run .book)) (c .before .event-of .ensures)
 
 returns : tie.Need-returns
-returns c =
-    let s = c .before .before .before .args in (appended-stopped (s .run) _ (s .text .now) (c .if1 .taken), λ _ named. named)
+returns c = let s = c .before .before .before .args in appended-stopped (s .run) _ (s .text .now) (c .if1 .taken)
 
 event-of-requires : tie.Need-event-of-requires
 event-of-requires c κs = search needs
@@ -57,12 +40,10 @@ with-refusal-requires c κs = search needs
 returns-2 : tie.Need-returns-2
 returns-2 c =
     let asked = c .before .before in
-    let s = asked .before .before .before .before .before .before .args in (
-      not-due (endCall (s .end)) (s .run) (s .text .now) (asked .before .before .before .if1 .left)
-          (sym (asked-due asked) ∙ not-true (asked .is-due .result) (c .before .if2 .taken))
-          (c .with-refusal .ensures),
-      λ file _. ap (λ (r : Run). namesRecord file r) (c .with-refusal .ensures),
-    )
+    let s = asked .before .before .before .before .before .before .args in
+    not-due (endCall (s .end)) (s .run) (s .text .now) (asked .before .before .before .if1 .left)
+    (sym (asked-due asked) ∙ not-true (asked .is-due .result) (c .before .if2 .taken))
+    (c .with-refusal .ensures)
 
 slice-aggregate-settle-end : tie.Need-slice-aggregate-settle-end
 slice-aggregate-settle-end c = search needs
@@ -92,17 +73,11 @@ returns-3 c =
     let closed = numbered .before .before in
     let asked = closed .before .before .before in
     let s = asked .before .before .before .before .before .before .args in
-    let answered = closed .settle-end .ensures in
     let number = numbered .number-of .ensures ∙ number-is (s .end) (s .run .book) in
-    let printed = c .before .before .print-event .ensures in
-    let made = result-as (closed .settle-end .result) _ (tagged .tag-of .ensures) number (printed .0) in (
-      when-due (endCall (s .end)) (s .run) (s .text .now) (asked .before .before .before .if1 .left)
-          (sym (asked-due asked) ∙ not-false (asked .is-due .result) (closed .before .before .if2 .left))
-          (appended-as (event-ends (endCall (s .end)) (s .run .book) (closed .settle-end .result) _ _ answered refl) made),
-      λ file _.
-          names-other file (tagOf (endCall (s .end))) _ (closed .settle-end .result) _ (made .stands) (printed .1) (no-hour (s .end))
-          (no-record (s .end) _ _ (answered .names)),
-    )
+    let made = result-as (closed .settle-end .result) _ (tagged .tag-of .ensures) number (c .before .before .print-event .ensures) in
+    when-due (endCall (s .end)) (s .run) (s .text .now) (asked .before .before .before .if1 .left)
+    (sym (asked-due asked) ∙ not-false (asked .is-due .result) (closed .before .before .if2 .left))
+    (appended-as (event-ends (endCall (s .end)) (s .run .book) (closed .settle-end .result) _ _ (closed .settle-end .ensures) refl) made)
 
 pub close-if-due-spec : {M : Type 1} → statement M
 close-if-due-spec =

@@ -2,28 +2,20 @@
 -- Assumes nothing.
 use Prim.Native.Nat.{ℕ}
 use mathlib.Core.Path.{_≡_, refl, sym, ap, subst, _∙_}
-use mathlib.Core.Bool.{true}
 use mathlib.Core.List.{List, []}
-use native.Mathlib.Omega.{arith}
 use lib.ListN.{length, replicate}
 use lib.IntN.{ℤ, pos}
 use mir.Syntax.{w64}
 use mir.ValLaws.{toZ-ofZ}
 use Rattle.numbers.specs.Limits.{owners, nodes}
 use Rattle.numbers.proofs.Refusals.{answer-accepted, answer-refused}
-use Rattle.rights.specs.Faults.{namesFault}
-use Rattle.rights.proofs.Faults.{names-none}
 use Rattle.settlement.specs.Events.{Call, hourCall, Answered}
-use Rattle.settlement.proofs.Amounts.{names-of-hour}
 use Rattle.hour_block.specs.declared.Decoded.{Decoded}
 use Rattle.hour_block.specs.Block.{amountIn, pricesIn, decodeRefusal}
-use Rattle.hour_block.proofs.Answer.{decode-most, decoded-number, decoded-amount, decoded-prices, prices-length}
-use Rattle.settlement_run.specs.declared.Run.{Run}
+use Rattle.hour_block.proofs.Answer.{decoded-number, decoded-amount, decoded-prices}
 use Rattle.settlement_run.specs.Run.{stops, hourPart}
-use Rattle.settlement_run.specs.Calls.{namesRecord}
 use Rattle.settlement_run.specs.InnerContracts.{refusedBy}
 use Rattle.settlement_run.proofs.Appending.{same-end, event-ends, appended-as, appended-nothing}
-use Rattle.settlement_run.proofs.Naming.{names-hour}
 use borrow.Author.Needs.{needs}
 use Rattle.settlement_run.proofs.events.settle_hour.Statement.{statement}
 use Rattle.settlement_run.proofs.events.settle_hour.Tie as tie
@@ -75,15 +67,12 @@ returns : tie.Need-returns
 unfolding hourPart
 returns c =
     let read = c .before .before .before .before in
-    let s = read .before .before .before .before .before .before .args in
-    let broken = c .before .if1 .taken in
+    let s = start-of read .args in
     let number = number-is read in
-    let told = c .with-refusal .ensures in (
-      appended-as (same-end (sym (answer-refused (decodeRefusal (length (s .block .now)) nodes) _ _ (λ zero. broken (number ∙ zero)))))
-          (appended-nothing (stops [] (decodeRefusal (length (s .block .now)) nodes) 72 (s .run .book .hours) (s .run .book)) (s .run) (s .text .now) refl
-          (told ∙ ap (λ (n : ℕ). refusedBy (s .run) n 72 (s .run .book .hours) 0) number)),
-      ap (λ (r : Run). namesRecord (s .rights .now) r) told ∙ names-none nodes (s .rights .now) _ (omega (arith, number, decode-most (length (s .block .now)) nodes)),
-    )
+    appended-as
+    (same-end (sym (answer-refused (decodeRefusal (length (s .block .now)) nodes) _ _ (λ zero. c .before .if1 .taken (number ∙ zero)))))
+    (appended-nothing (stops [] (decodeRefusal (length (s .block .now)) nodes) 72 (s .run .book .hours) 0 (s .run .book)) (s .run) (s .text .now) refl
+    (c .with-refusal .ensures ∙ ap (λ (n : ℕ). refusedBy (s .run) n 72 (s .run .book .hours) 0) number))
 
 slice-aggregate-hour : tie.Need-slice-aggregate-hour
 slice-aggregate-hour c = search needs
@@ -106,18 +95,11 @@ same-length c = search needs
 returns-2 : tie.Need-returns-2
 unfolding hourPart
 returns-2 c =
-    let printed = c .before .before .print-event .ensures in
     let settled = c .before .before .before .before .before .before in
     let open-block = settled .before .before .before .before in
-    let read = open-block .before .before .before in
-    let s = read .before .before .before .before .before .before .args in
-    let named = answered settled .names in (
-      appended-as (same-end (sym (answer-accepted (decodeRefusal (length (s .block .now)) nodes) _ _ (whole open-block))))
-          (appended-as (event-ends (called settled) (s .run .book) (settled .hour .result) _ _ (answered settled) refl) (printed .0)),
-      names-hour (s .rights .now) 72 _ (settled .hour .result) _ (printed .0 .stands) (printed .1) refl
-          (subst (λ (n : ℕ). namesFault n (s .rights .now) (settled .hour .result .refusal) (settled .hour .result .faulty) ≡ true)
-          (prices-length (s .block .now)) (sym (names-of-hour (s .rights .now) (pricesIn (s .block .now)) (amountIn (s .block .now)) _ _) ∙ named)),
-    )
+    let s = start-of (read-by open-block) .args in
+    appended-as (same-end (sym (answer-accepted (decodeRefusal (length (s .block .now)) nodes) _ _ (whole open-block))))
+    (appended-as (event-ends (called settled) (s .run .book) (settled .hour .result) _ _ (answered settled) refl) (c .before .before .print-event .ensures))
 
 pub settle-hour-spec : {M : Type 1} → statement M
 settle-hour-spec =
