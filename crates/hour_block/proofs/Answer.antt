@@ -1,9 +1,9 @@
 -- The decode call's answer by its refusal number, the number by the two lengths, and what a caller is given.
 -- Assumes nothing.
-use Prim.Native.Nat.{ℕ, zero, suc, _≤_}
+use Prim.Native.Nat.{ℕ, zero, suc}
 use mathlib.Core.Path.{_≡_, refl, sym, ap, _∙_}
 use mathlib.Core.Bool.{Bool, true, false, not, _||_}
-use mathlib.Core.List.{List, [], _∷_}
+use mathlib.Core.List.{List, []}
 use native.Mathlib.Omega.{arith}
 use lib.Dec.{eqb}
 use lib.ListN.{length}
@@ -11,11 +11,10 @@ use lib.IntN.{ℤ, pos}
 use borrow.Author.Tests.{eqb-true, not-false}
 use Rattle.numbers.specs.Limits.{nodes}
 use Rattle.numbers.proofs.Booleans.{neither-true}
-use Rattle.numbers.specs.Refusals.{_if_, answerBy}
-use Rattle.numbers.proofs.Counts.{length-listBelow}
-use Rattle.numbers.proofs.Refusals.{refusal-here, refusal-next, refusal-none, refusal-most, answer-accepted, answer-refused}
+use Rattle.numbers.specs.Refusals.{answerBy}
+use Rattle.numbers.proofs.Refusals.{refusal-here, refusal-next, refusal-none, answer-accepted, answer-refused}
 use Rattle.hour_block.specs.declared.Decoded.{Decoded}
-use Rattle.hour_block.specs.Block.{hourBytes, amountIn, priceIn, pricesIn, decodeRefusal, decoded, pricesAfter}
+use Rattle.hour_block.specs.Block.{hourBytes, amountIn, pricesIn, decodeRefusal, decoded, pricesAfter}
 
 -- the code's one test of both lengths
 abbrev isWrong : ℕ → ℕ → Bool
@@ -59,10 +58,6 @@ module _ (block : List ℕ) (before : List ℤ) where
 
 -- ---- what a caller is given
 
-pub decode-most : (bytes places : ℕ) → decodeRefusal bytes places ≤ 4
-unfolding decodeRefusal
-decode-most bytes places = refusal-most 4 4 ((4 if isWrong bytes places) ∷ []) refl
-
 pub decoded-number : (block : List ℕ) (places : ℕ) → decoded block places .refusal ≡ decodeRefusal (length block) places
 unfolding decoded
 decoded-number block places = by-number (decodeRefusal (length block) places)
@@ -80,7 +75,3 @@ pub decoded-prices : (block : List ℕ) (before : List ℤ) → decodeRefusal (l
     → pricesAfter block before ≡ pricesIn block
 unfolding pricesAfter
 decoded-prices block before is = answer-accepted (decodeRefusal (length block) (length before)) _ _ is
-
-pub prices-length : (block : List ℕ) → length (pricesIn block) ≡ nodes
-unfolding pricesIn
-prices-length block = length-listBelow (priceIn block) nodes

@@ -17,14 +17,24 @@ pub empty-file : (prices : ℕ) → (fileRefusal prices [] ≡ 0) × (recordCoun
 unfolding fileRefusal faultRows anyFault anyBelow firstRefusal
 empty-file prices = (refl, refl)
 
--- owner 0, source 0, sink 1; kind 0 (an obligation) and class 2 (all hours); size 100 tenths; first day 1, last day 365 = 109 + 256
-unfoldable pub oneRight : List ℕ
-oneRight =
-    0 ∷ 0 ∷ 0 ∷ 0 ∷ 1 ∷ 0
+-- a right from node 0: owner 0; kind 0 (an obligation) and class 2 (all hours); first day 1, last day 365 = 109 + 256
+unfoldable pub rightTo : ℕ → ℕ → List ℕ
+rightTo sink size =
+    0 ∷ 0 ∷ 0 ∷ 0 ∷ sink ∷ 0
     ∷ 0 ∷ 2
-    ∷ 100 ∷ 0 ∷ 0 ∷ 0
+    ∷ size ∷ 0 ∷ 0 ∷ 0
     ∷ 1 ∷ 0 ∷ 109 ∷ 1
     ∷ []
+
+-- of 100 tenths to node 1; one to node 5, which two prices have not; and one of size 0, which is bad
+unfoldable pub oneRight : List ℕ
+oneRight = rightTo 1 100
+
+unfoldable pub unpricedRight : List ℕ
+unpricedRight = rightTo 5 100
+
+unfoldable pub badRight : List ℕ
+badRight = rightTo 1 0
 
 -- cents at node 0 and at node 1
 unfoldable pub twoPrices : List ℤ
@@ -33,26 +43,8 @@ twoPrices = pos 500 ∷ pos 1500 ∷ []
 -- "Equal records each count": the same record twice is no fault; in hour 0 it is worth 10,000 cents to its owner once, 20,000 twice
 pub equal-records : (fileRefusal 2 (oneRight ++ oneRight) ≡ 0)
     × ((target oneRight twoPrices 0 0 ≡ pos 10_000) × (target (oneRight ++ oneRight) twoPrices 0 0 ≡ pos 20_000))
-unfolding oneRight twoPrices fileRefusal faultRows anyFault anyBelow faultAt firstRefusal target tenths sumBelow worthTo worth roundTenths operatingHour calendarRefusal monthOf endedBy isPeak isWorking isAmong
+unfolding rightTo oneRight twoPrices fileRefusal faultRows anyFault anyBelow faultAt firstRefusal target tenths sumBelow worthTo worth roundTenths operatingHour calendarRefusal monthOf endedBy isPeak isWorking isAmong
 equal-records = (refl, (refl, refl))
-
--- the same right with sink 5, a node that two prices have not
-unfoldable pub unpricedRight : List ℕ
-unpricedRight =
-    0 ∷ 0 ∷ 0 ∷ 0 ∷ 5 ∷ 0
-    ∷ 0 ∷ 2
-    ∷ 100 ∷ 0 ∷ 0 ∷ 0
-    ∷ 1 ∷ 0 ∷ 109 ∷ 1
-    ∷ []
-
--- the same right with size 0, which is bad
-unfoldable pub badRight : List ℕ
-badRight =
-    0 ∷ 0 ∷ 0 ∷ 0 ∷ 1 ∷ 0
-    ∷ 0 ∷ 2
-    ∷ 0 ∷ 0 ∷ 0 ∷ 0
-    ∷ 1 ∷ 0 ∷ 109 ∷ 1
-    ∷ []
 
 -- "the lowest one with that fault" (Wish 3): 8 names record 1; with two bad records behind it, 7 names record 2, the first bad one, and
 -- not record 1, the first with any fault
@@ -60,5 +52,5 @@ pub first-faulty : (fileRefusal 2 (oneRight ++ unpricedRight) ≡ 8)
     × ((faultyRecord 2 (oneRight ++ unpricedRight) 8 ≡ 1)
     × ((fileRefusal 2 (oneRight ++ unpricedRight ++ badRight ++ badRight) ≡ 7)
     × (faultyRecord 2 (oneRight ++ unpricedRight ++ badRight ++ badRight) 7 ≡ 2)))
-unfolding oneRight unpricedRight badRight fileRefusal faultRows anyFault anyBelow faultAt firstRefusal faultyRecord lowestBelow
+unfolding rightTo oneRight unpricedRight badRight fileRefusal faultRows anyFault anyBelow faultAt firstRefusal faultyRecord lowestBelow
 first-faulty = (refl, (refl, (refl, refl)))

@@ -2,9 +2,9 @@
 -- Assumes nothing.
 use Prim.Native.Nat.{ℕ, zero, suc, _+_, _<_}
 use mathlib.Core.Path.{_≡_, refl, sym, ap, ap₂, _∙_}
-use mathlib.Core.Bool.{Bool, true, false, _||_, or-true, false≢true}
+use mathlib.Core.Bool.{Bool, true, false, _||_, or-true}
 use mathlib.Core.Logic.{⊎-elim}
-use native.Mathlib.Nat.{le-of-suc-le-suc, le-refl, le-suc, le-trans, not-suc-le-zero, eq-or-lt-of-le}
+use native.Mathlib.Nat.{le-of-suc-le-suc, not-suc-le-zero, eq-or-lt-of-le}
 use native.Mathlib.Numerals.{add-one}
 use Rattle.numbers.specs.Lists.{anyBelow}
 
@@ -39,14 +39,3 @@ module _ (test : ℕ → Bool) where
       by-test : (b : Bool) → test k ≡ b → test k ≡ false
       by-test true passes = passes ∙ sym (any-here n k inside passes) ∙ none
       by-test false fails = fails
-
-  -- some number below n passes: here is one
-  pub any-find : (n : ℕ) → anyBelow test n ≡ true → (k : ℕ) × (k < n) × (test k ≡ true)
-  unfolding anyBelow
-  any-find zero some = absurd (false≢true some)
-  any-find (suc n) some = by-test (anyBelow test n) refl (any-find n) some
-    where
-      by-test : (below : Bool) → anyBelow test n ≡ below → (anyBelow test n ≡ true → (k : ℕ) × (k < n) × (test k ≡ true))
-          → (anyBelow test n || test n) ≡ true → (k : ℕ) × (k < suc n) × (test k ≡ true)
-      by-test true e find some = let found = find e in (found .0, le-trans (found .1) (le-suc n), found .2)
-      by-test false e find some = (n, le-refl (suc n), sym (ap (λ (b : Bool). b || test n) e) ∙ some)

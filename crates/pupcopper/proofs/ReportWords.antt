@@ -37,9 +37,6 @@ module _ (words report : ℕ) where
   unfolding reportRefusal
   wrong-4 other = refusal-here 4 [] (report-wrong other)
 
-  pub wrong-own : (report ≡ words → ⊥) → reportRefusal words report ≡ 0 → ⊥
-  wrong-own other none = omega (arith, wrong-4 other)
-
   -- the number of a call
   pub wrong-number : (called : ℕ) → (report ≡ words → ⊥) → 4 ≡ numberOf (reportRefusal words report) called
   wrong-number called other = sym (ap (λ (own : ℕ). numberOf own called) (wrong-4 other))

@@ -1,7 +1,7 @@
 -- A step and the closing over the words of a book: refused by the words, or the library's on the run that they stand for.
 -- Assumes nothing.
 use Prim.Native.Nat.{ℕ}
-use mathlib.Core.Path.{_≡_, refl, sym, ap, subst, _∙_}
+use mathlib.Core.Path.{_≡_, sym, ap, subst, _∙_}
 use mathlib.Core.Bool.{Bool, cond}
 use mathlib.Core.List.{List}
 use native.Mathlib.Omega.{arith}
@@ -19,7 +19,7 @@ use Rattle.settlement_run.specs.Calls.{steppedRun, steppedText, lastText, close
 use Rattle.settlement_run.proofs.BookAfter.{steps-keep}
 use Rattle.pupcopper.specs.BookWords.{BookWords, wordsOf, bookFrom}
 use Rattle.pupcopper.specs.Calls.{wordsRefusal}
-use Rattle.pupcopper.specs.InnerContracts.{SurplusesFit, runAt}
+use Rattle.pupcopper.specs.InnerContracts.{SurplusesFit, runOf}
 use Rattle.pupcopper.specs.RunCalls.{runFrom, steppedWords, steppedReport, closedWords, closedReport, reported, hostStep, HostSteps, closingRun, closingText}
 use Rattle.pupcopper.proofs.ReportWords.{report-fits, report-wrong}
 
@@ -41,16 +41,16 @@ surpluses-keep call book accepted fits =
     record { month = omega (arith, small); year = omega (arith, small) }
 
 -- so the book of a run can be written, before a step and after it
-pub run-fits : {book : Book} {number end : ℕ} {run : Run} → run ≡ runAt book number end → SurplusesFit book → SurplusesFit (run .book)
+pub run-fits : {book : Book} {number end : ℕ} {run : Run} → run ≡ runOf book number end → SurplusesFit book → SurplusesFit (run .book)
 run-fits stands fits = subst (λ (r : Run). SurplusesFit (r .book)) (sym stands) fits
 
 pub step-fits : (file block : List ℕ) (run : Run) (before : List ℕ) {result : Run} → result ≡ steppedRun file block run before
     → SurplusesFit (run .book) → SurplusesFit (result .book)
 step-fits = steps-keep SurplusesFit surpluses-keep
 
-pub run-of-words : (words : BookWords) {book : Book} {number end : ℕ} {run : Run} → run ≡ runAt book number end → book ≡ bookFrom words
+pub run-of-words : (words : BookWords) {book : Book} {number end : ℕ} {run : Run} → run ≡ runOf book number end → book ≡ bookFrom words
     → run ≡ runFrom words number end
-run-of-words words {number = number} {end = end} stands is = stands ∙ ap (λ (b : Book). runAt b number end) is
+run-of-words words {number = number} {end = end} stands is = stands ∙ ap (λ (b : Book). runOf b number end) is
 
 -- ---- a step
 
@@ -58,7 +58,7 @@ module _ (file block : List ℕ) (words : BookWords) (before : List ℕ) (end : 
   abbrev own : ℕ
   own = wordsRefusal steppedWords words (length report)
 
-  pub refused-step : {number : ℕ} {stood : Run} {reportAfter : List ℕ} → number ≡ own → (number ≡ 0 → ⊥) → stood ≡ runAt fresh 0 end
+  pub refused-step : {number : ℕ} {stood : Run} {reportAfter : List ℕ} → number ≡ own → (number ≡ 0 → ⊥) → stood ≡ runOf fresh 0 end
       → reportAfter ≡ reported steppedWords report (steppedReport stood)
       → HostSteps file block words before end report number words before reportAfter
   refused-step is some stands written =
@@ -101,7 +101,7 @@ module _ (words : BookWords) (number : ℕ) (before : List ℕ) (end : ℕ) (rep
     pub refused-text : before ≡ closingText words number before end (length report)
     refused-text = sym (answer-refused own-2 _ before refused)
 
-    pub refused-closing : {stood : Run} {reportAfter : List ℕ} → stood ≡ runAt fresh 0 end → reportAfter ≡ told stood
+    pub refused-closing : {stood : Run} {reportAfter : List ℕ} → stood ≡ runOf fresh 0 end → reportAfter ≡ told stood
         → reportAfter ≡ told (closingRun words number before end (length report))
     refused-closing stands written =
         written ∙ ap told stands ∙ sym (ap told (answer-refused own-2 (closed (runFrom words number end) before) (runFrom words number end) refused))

@@ -4,7 +4,7 @@
 use Prim.Native.Nat.{ℕ, _^_, _<_}
 use mathlib.Core.Path.{_≡_}
 use mathlib.Core.Bool.{false, cond}
-use mathlib.Core.List.{List}
+use mathlib.Core.List.{List, []}
 use lib.ListN.{length}
 use lib.IntN.{ℤ}
 use Rattle.rights.specs.declared.reader.Given.{Given}
@@ -12,6 +12,8 @@ use Rattle.rights.specs.Reader.{givenNumber, givenRight, saysNone}
 use Rattle.settlement.specs.declared.Book.{Book}
 use Rattle.settlement.specs.declared.Settled.{Settled}
 use Rattle.settlement_run.specs.declared.Run.{Run}
+use Rattle.settlement_run.specs.Run.{stops}
+use Rattle.settlement_run.specs.Calls.{runAt}
 use Rattle.pupcopper.specs.declared.book_words.Taken.{Taken}
 use Rattle.pupcopper.specs.declared.reports.Told.{Told}
 use Rattle.pupcopper.specs.BookWords.{BookWords, bookFrom}
@@ -41,6 +43,5 @@ pub record ResultFits (result : Settled) : Type 0 where
   pub kept : result .refusal ≡ 0 → SurplusesFit (result .book)
 
 -- the run that stands at a book, with the refusal that stopped it or 0
-abbrev pub runAt : Book → ℕ → ℕ → Run
-runAt book refusal end =
-    record { full = false; end = end; refusal = refusal; tag = 0; number = 0; faulty = 0; book = book }
+abbrev pub runOf : Book → ℕ → ℕ → Run
+runOf book refusal end = runAt (stops [] refusal 0 0 0 book) false end

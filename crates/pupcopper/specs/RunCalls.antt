@@ -9,22 +9,14 @@ use Rattle.numbers.specs.Refusals.{answerBy}
 use Rattle.statement_text.specs.Buffer.{textAfter}
 use Rattle.statement_text.specs.Text.{lineRoom}
 use Rattle.settlement_run.specs.declared.Run.{Run}
-use Rattle.settlement_run.specs.Calls.{steppedRun, steppedText, lastText, closed}
+use Rattle.settlement_run.specs.Run.{stops}
+use Rattle.settlement_run.specs.Calls.{runAt, steppedRun, steppedText, lastText, closed}
 use Rattle.pupcopper.specs.BookWords.{BookWords, wordsOf, bookFrom}
 use Rattle.pupcopper.specs.Calls.{numberOf, isWrongReport, wordsRefusal}
 
 -- the run that a host's words stand for: its book, the refusal that stopped it or 0, and the end of its text
 abbrev pub runFrom : BookWords → ℕ → ℕ → Run
-runFrom words refusal end =
-    record {
-      full = false;
-      end = end;
-      refusal = refusal;
-      tag = 0;
-      number = 0;
-      faulty = 0;
-      book = bookFrom words;
-    }
+runFrom words refusal end = runAt (stops [] refusal 0 0 0 (bookFrom words)) false end
 
 -- a step's report: 1 if there was too little room, the end of the text, the refused event's letter and number, the record number
 abbrev pub steppedWords : ℕ

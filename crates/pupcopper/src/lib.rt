@@ -1,8 +1,7 @@
 // The library for hosts in C and Rust: its calls on numbers and lent slices. Every argument is allowed.
 ghost use mathlib.Core.Path.{_≡_};
-ghost use mathlib.Core.Bool.{true};
 ghost use mathlib.Core.List.{[], _∷_};
-ghost use lib.ListN.{length, getD};
+ghost use lib.ListN.{length};
 ghost use Rattle.numbers.specs.Refusals.{answerBy};
 ghost use Rattle.calendar.specs.Year.{operatingHour};
 ghost use Rattle.rights.specs.Layout.{reading};

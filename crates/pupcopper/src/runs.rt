@@ -1,7 +1,7 @@
 // A run from a host's book, and where it then stands, written into a report.
 ghost use mathlib.Core.Path.{_≡_};
 ghost use Rattle.settlement.specs.Book.{fresh as freshBook};
-ghost use Rattle.pupcopper.specs.InnerContracts.{runAt};
+ghost use Rattle.pupcopper.specs.InnerContracts.{runOf};
 ghost use Rattle.pupcopper.specs.RunCalls.{steppedWords, steppedReport, closedWords, closedReport, reported};
 use settlement::Book;
 use settlement_run::Run;
@@ -14,7 +14,7 @@ pub(crate) const CLOSED_WORDS: usize = 2;
 
 // The run that stands at a book, stopped by a refusal or by none.
 pub(crate) fn run_from(book: Book, refusal: u8, end: usize) -> Run
-    ensures { λ r. ⌜ r ≡ runAt book refusal end ⌝ }
+    ensures { λ r. ⌜ r ≡ runOf book refusal end ⌝ }
 {
     Run {
         full: false,
@@ -29,7 +29,7 @@ pub(crate) fn run_from(book: Book, refusal: u8, end: usize) -> Run
 
 // A run that did not move, for a report, which does not show the book.
 pub(crate) fn unmoved(end: usize) -> Run
-    ensures { λ r. ⌜ r ≡ runAt freshBook 0 end ⌝ }
+    ensures { λ r. ⌜ r ≡ runOf freshBook 0 end ⌝ }
 {
     run_from(Book::fresh(), 0, end)
 }

@@ -1,6 +1,5 @@
 // The rights file: 16-byte records, read by number, and the faults of a whole file.
 ghost use mathlib.Core.Path.{_≡_};
-ghost use mathlib.Core.Bool.{true};
 ghost use Prim.Native.Nat.{_+_, _*_, _<_, _≤_};
 ghost use lib.ListN.{length};
 ghost use Rattle.numbers.specs.Lists.{lowestBelow};

@@ -2,14 +2,11 @@
 -- Assumes nothing.
 use Prim.Native.Nat.{ℕ, _+_, _*_, _≤_}
 use mathlib.Core.Path.{_≡_, refl}
-use mathlib.Core.List.{List}
 use native.Mathlib.Omega.{arith}
 use lib.ListN.{length}
-use lib.IntN.{ℤ}
 use Rattle.numbers.specs.Limits.{mostCents}
 use Rattle.calendar.specs.Year.{hoursInYear}
 use Rattle.rights.specs.Layout.{recordCount}
-use Rattle.rights.specs.Faults.{faultyRecord}
 use Rattle.rights.proofs.Faults.{faulty-within}
 use Rattle.settlement.specs.declared.Book.{Book}
 use Rattle.settlement.specs.Book.{fresh, mostSurplus, fundLeft}
@@ -78,9 +75,3 @@ unfolding recordOf
 record-within (hourCall file prices collected) number = faulty-within (length prices) file number
 record-within monthEndCall number = omega arith
 record-within yearEndCall number = omega arith
-
--- an hour's is that of its file
-pub record-of-hour : (file : List ℕ) (prices : List ℤ) (collected : ℤ) (number : ℕ)
-    → recordOf (hourCall file prices collected) number ≡ faultyRecord (length prices) file number
-unfolding recordOf
-record-of-hour file prices collected number = refl

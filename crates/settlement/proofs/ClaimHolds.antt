@@ -1,7 +1,7 @@
 -- Demand 3: the claim holds of the ledger of every list of calls.
 -- Assumes nothing.
 use Prim.Native.Nat.{ℕ, _<_}
-use mathlib.Core.Path.{_≡_, refl, sym, subst, _∙_}
+use mathlib.Core.Path.{_≡_, sym, subst, _∙_}
 use mathlib.Core.List.{List, [], _∷_}
 use native.Mathlib.Decide.{ℕ-discrete}
 use native.Mathlib.Nat.{le-antisymm}
@@ -11,7 +11,6 @@ use lib.IntN.{ℤ}
 use Rattle.numbers.specs.Limits.{owners}
 use Rattle.numbers.proofs.Refusals.{answer-refused}
 use Rattle.calendar.specs.Year.{monthsInYear}
-use Rattle.settlement.specs.declared.Book.{Book}
 use Rattle.settlement.specs.declared.Settled.{Settled}
 use Rattle.settlement.specs.Events.{Call, hourCall, monthEndCall, yearEndCall, wants, fund, lines, bookAfter, Answered}
 use Rattle.settlement.specs.Ledger.{Entry, Asked, bookAt, ledgerOf, IsLedger}

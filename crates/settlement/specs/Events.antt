@@ -4,7 +4,7 @@ use Prim.Native.Nat.{ℕ, _+_, _-_}
 use mathlib.Core.Path.{_≡_}
 use mathlib.Core.Bool.{Bool, true, not, _||_}
 use mathlib.Core.List.{List, [], _∷_, _++_}
-use lib.Dec.{leb, ltb, eqb}
+use lib.Dec.{leb, ltb}
 use lib.ListN.{length, getD, replicate}
 use lib.IntN.{ℤ, pos, negsuc}
 use lib.Signed.{ltZ}

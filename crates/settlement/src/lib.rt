@@ -2,7 +2,7 @@
 
 ghost use Prim.Native.Nat.{_<_};
 ghost use mathlib.Core.Path.{_≡_};
-ghost use mathlib.Core.Bool.{false, true};
+ghost use mathlib.Core.Bool.{false};
 ghost use lib.ListN.{length};
 ghost use Rattle.numbers.specs.Limits.{owners};
 ghost use Rattle.numbers.specs.Refusals.{firstRefusal};

@@ -17,8 +17,8 @@ use Rattle.settlement.proofs.Refusing.{gives-number, gives-record, gives-book}
 use Rattle.statement_text.specs.Buffer.{written, endAfter, textAfter}
 use Rattle.statement_text.specs.InnerContracts.{Wrote}
 use Rattle.statement_text.specs.Text.{Line, textOf, eventLines, eventRoom}
-use Rattle.statement_text.proofs.Lines.{text-none, text-append}
-use Rattle.statement_text.proofs.Pieces.{wrote-nothing, wrote-then, wrote-as}
+use Rattle.statement_text.proofs.Lines.{text-none}
+use Rattle.statement_text.proofs.Pieces.{wrote-nothing, wrote-as}
 use Rattle.statement_text.proofs.Room.{with-room}
 use Rattle.settlement_run.specs.declared.Run.{Run}
 use Rattle.settlement_run.specs.Run.{Part, goesOn, stops, andThen, tagOf, numberOf, askedOf, eventPart, ifDue}

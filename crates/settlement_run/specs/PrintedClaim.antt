@@ -2,7 +2,7 @@
 -- Assumes nothing.
 use Prim.Native.Nat.{ℕ, _+_, _<_}
 use mathlib.Core.Path.{_≡_}
-use mathlib.Core.Bool.{Bool, true, false, cond, _&&_}
+use mathlib.Core.Bool.{true, false, cond, _&&_}
 use mathlib.Core.Logic.{_⊎_}
 use mathlib.Core.List.{List, [], _∷_, _++_}
 use lib.Dec.{eqb}
@@ -17,7 +17,7 @@ use Rattle.settlement.specs.Ledger.{Entry, bookAt, ledgerOf, sumOver, hourCount
 use Rattle.settlement.specs.Claim.{Claim}
 use Rattle.hour_block.specs.Block.{amountIn, pricesIn}
 use Rattle.statement_text.specs.Text.{Line, ownerLine, fundLine, refusalLine, eventLines}
-use Rattle.settlement_run.specs.Run.{Part, tagOf, blockAt, wholeRun, allLines}
+use Rattle.settlement_run.specs.Run.{Part, tagOf, blockAt, allLines}
 
 -- ---- what is read from the printed lines
 

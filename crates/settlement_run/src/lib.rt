@@ -1,6 +1,5 @@
 // A run of the program: a block of input to the text that it prints, and what comes before the first block and after the last.
 ghost use mathlib.Core.Path.{_≡_};
-ghost use lib.ListN.{length};
 ghost use Rattle.statement_text.specs.Buffer.{endAfter, textAfter};
 ghost use Rattle.statement_text.specs.Sentence.{sentenceRoom};
 ghost use Rattle.statement_text.specs.Text.{lineRoom};

@@ -1,8 +1,6 @@
 -- `settlement_run::opening_refusal` meets its contract, row by row of its table.
 -- Assumes nothing.
-use mathlib.Core.Path.{sym, ap, _∙_}
-use mathlib.Core.Bool.{not}
-use mathlib.Core.List.{[], _∷_}
+use mathlib.Core.Path.{sym, _∙_}
 use borrow.Author.Tests.{lt-ltb, le-ltb}
 use Rattle.numbers.proofs.Refusals.{refusal-none, refusal-here, refusal-next}
 use Rattle.settlement_run.specs.Run.{openingRefusal}

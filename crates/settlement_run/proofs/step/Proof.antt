@@ -1,8 +1,6 @@
 -- `settlement_run::step` meets its contract: nothing without room or once the run has stopped, else the three events one behind another.
 -- Assumes nothing.
 use Prim.Native.Nat.{_+_, _≤_}
-use mathlib.Core.Path.{_≡_, sym, ap, subst, _∙_}
-use mathlib.Core.List.{List}
 use native.Mathlib.Omega.{arith}
 use lib.ListN.{length}
 use Rattle.settlement_run.specs.Calls.{stepRoom}

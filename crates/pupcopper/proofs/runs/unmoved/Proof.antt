@@ -2,7 +2,7 @@
 -- Assumes nothing.
 use mathlib.Core.Path.{ap, _∙_}
 use Rattle.settlement.specs.declared.Book.{Book}
-use Rattle.pupcopper.specs.InnerContracts.{runAt}
+use Rattle.pupcopper.specs.InnerContracts.{runOf}
 use borrow.Author.Needs.{needs}
 use Rattle.pupcopper.proofs.runs.unmoved.Statement.{statement}
 use Rattle.pupcopper.proofs.runs.unmoved.Tie as tie
@@ -15,7 +15,7 @@ run-from-requires c κs = search needs
 
 returns : tie.Need-returns
 returns c =
-    c .run-from .ensures ∙ ap (λ (b : Book). runAt b 0 (c .before .before .args .end)) (c .before .fresh .ensures)
+    c .run-from .ensures ∙ ap (λ (b : Book). runOf b 0 (c .before .before .args .end)) (c .before .fresh .ensures)
 
 pub unmoved-spec : {M : Type 1} → statement M
 unmoved-spec = tie.close (tie.spec fresh-requires run-from-requires returns)
