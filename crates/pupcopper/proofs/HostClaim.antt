@@ -188,5 +188,5 @@ pub host-claim : (list : List HostEntry) → IsHostList list
     → (hostLedger list ≡ ledgerOf (map asked (hostLedger list))) × Claim (hostLedger list) × (bookAt (hostLedger list) ≡ bookFrom (wordsAt list))
 host-claim list settled =
     let kept = kept-all list settled in
-    let is = only-ledger (hostLedger list) (kept .ledger) in
+    let is = only-ledger (map asked (hostLedger list)) (hostLedger list) (kept .ledger) refl in
     (is, subst Claim (sym is) (claim (map asked (hostLedger list))), kept .same)

@@ -37,12 +37,16 @@ unfolding ledgerOf
 its-calls [] = refl
 its-calls (call ∷ before) = ap (call ∷_) (its-calls before)
 
--- and every ledger of these calls is that one
-pub only-ledger : (ledger : List Entry) → IsLedger ledger → ledger ≡ ledgerOf (map asked ledger)
+-- a ledger is worked out from its calls
+worked-out : (ledger : List Entry) → IsLedger ledger → ledger ≡ ledgerOf (map asked ledger)
 unfolding ledgerOf
-only-ledger [] tt = refl
-only-ledger (entry ∷ past) answered =
-    let below = only-ledger past (answered .1) in
+worked-out [] tt = refl
+worked-out (entry ∷ past) answered =
+    let below = worked-out past (answered .1) in
     let here : entry ≡ entryOn (bookAt past) (asked entry) =
     λ i. record { call = entry .call; lent = entry .lent; result = answered .0 .gives i; written = answered .0 .writes i } in
     ap₂ (λ (e : Entry) (l : List Entry). e ∷ l) (here ∙ ap (λ (l : List Entry). entryOn (bookAt l) (asked entry)) below) below
+
+-- so every ledger of these calls is that one
+pub only-ledger : (calls : List Asked) (ledger : List Entry) → IsLedger ledger → map asked ledger ≡ calls → ledger ≡ ledgerOf calls
+only-ledger calls ledger answered is = worked-out ledger answered ∙ ap ledgerOf is
