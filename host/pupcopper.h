@@ -11,8 +11,8 @@
    A report, or a book, of another number of words than named below is refused with 4 before all else. A report that has its words is
    always written. In a refused call it is zeros, with two exceptions: the record number of 7 and 8 in an hour and a target call, which
    is that of the first record with that fault (7 names the first bad right, also where an unpriced node stands before it), and the next
-   record number in a reader's step, which is always given. The calls of a run, at the end of this file, say themselves what they
-   write. */
+   record number in a reader's step, which is always given. In an accepted call the record number of an hour and a target call is 0. The
+   calls of a run, at the end of this file, say themselves what they write. */
 #ifndef PUPCOPPER_H
 #define PUPCOPPER_H
 
@@ -105,8 +105,8 @@ uint8_t pupcopper_year_end(uint64_t *counts, size_t counts_words, uint64_t *shor
 /* One block: the amount collected (64 bits signed), then 1,024 prices (32 bits signed), low byte first. Settles the next hour, and
    after it the month end and the year end that are due, and appends `H`, `M` and `Y` lines as the program prints them. Gives the
    refusal that stops the run, 0 if it goes on. A refused event prints no line and leaves the book as it was; what the block settled
-   before it stands. Its letter is that of its lines (72, 77, 89), its number the hours settled, the months closed, or 0, and in 7 the
-   record number is that of the first bad right. A block of another length than PUPCOPPER_BLOCK is an hour refused with 4, on any
+   before it stands. Its letter is that of its lines (72, 77, 89), its number the hours settled, the months closed, or 0. In 7 the
+   record number is that of the first bad right, else it is 0. A block of another length than PUPCOPPER_BLOCK is an hour refused with 4, on any
    book. */
 uint8_t pupcopper_step(uint64_t *counts, size_t counts_words, uint64_t *shortfalls, size_t shortfalls_words, int64_t *surpluses,
                        size_t surpluses_words, const uint8_t *rights, size_t rights_bytes, const uint8_t *block,

@@ -4,7 +4,7 @@
 // A remainder reads like the paper's "not a multiple of 16".
 #![allow(clippy::manual_is_multiple_of)]
 
-// The rules, written from the scope paper alone.
+// The rules, written from the scope paper and the delivered wishes alone.
 pub mod book;
 pub mod calendar;
 pub mod program;

@@ -164,7 +164,7 @@ impl BookWords<'_> {
     }
 
     /// A step: "Settles the next hour, and after it the month end and the year
-    /// end that are due". Before the hour, a refusal's report "has the end that
+    /// end that are due". Before the hour, a refusal's report has "the end that
     /// was given and else zeros"; in 7 the hour's record number, "the lowest one
     /// with that fault", stands in it.
     pub fn step(

@@ -26,7 +26,7 @@ rightTo sink size =
     ∷ 1 ∷ 0 ∷ 109 ∷ 1
     ∷ []
 
--- of 100 tenths to node 1; one to node 5, which two prices have not; and one of size 0, which is bad
+-- a right of 100 tenths to node 1; one to node 5, which has no price among two; one of size 0, which is bad
 unfoldable pub oneRight : List ℕ
 oneRight = rightTo 1 100
 
@@ -48,9 +48,9 @@ equal-records = (refl, (refl, refl))
 
 -- "the lowest one with that fault" (Wish 3): 8 names record 1; with two bad records behind it, 7 names record 2, the first bad one, and
 -- not record 1, the first with any fault
-pub first-faulty : (fileRefusal 2 (oneRight ++ unpricedRight) ≡ 8)
+pub first-bad-named : (fileRefusal 2 (oneRight ++ unpricedRight) ≡ 8)
     × ((faultyRecord 2 (oneRight ++ unpricedRight) 8 ≡ 1)
     × ((fileRefusal 2 (oneRight ++ unpricedRight ++ badRight ++ badRight) ≡ 7)
     × (faultyRecord 2 (oneRight ++ unpricedRight ++ badRight ++ badRight) 7 ≡ 2)))
 unfolding rightTo oneRight unpricedRight badRight fileRefusal faultRows anyFault anyBelow faultAt firstRefusal faultyRecord lowestBelow
-first-faulty = (refl, (refl, (refl, refl)))
+first-bad-named = (refl, (refl, (refl, refl)))

@@ -1,4 +1,4 @@
--- Sums, counts and lists over the numbers below a bound, and the sum of a list.
+-- Sums, counts, searches and lists over the numbers below a bound, and the sum of a list.
 -- Assumes nothing.
 use Prim.Native.Nat.{ℕ, zero, suc, _+_, _<_}
 use mathlib.Core.Path.{_≡_}

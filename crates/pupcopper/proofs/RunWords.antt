@@ -19,8 +19,8 @@ use Rattle.settlement_run.specs.Calls.{steppedRun, steppedText, lastText, close
 use Rattle.settlement_run.proofs.BookAfter.{steps-keep}
 use Rattle.pupcopper.specs.BookWords.{BookWords, wordsOf, bookFrom}
 use Rattle.pupcopper.specs.Calls.{wordsRefusal}
-use Rattle.pupcopper.specs.InnerContracts.{SurplusesFit, runOf}
-use Rattle.pupcopper.specs.RunCalls.{runFrom, steppedWords, steppedReport, closedWords, closedReport, reported, hostStep, HostSteps, closingRun, closingText}
+use Rattle.pupcopper.specs.InnerContracts.{SurplusesFit}
+use Rattle.pupcopper.specs.RunCalls.{runOf, runFrom, steppedWords, steppedReport, closedWords, closedReport, reported, hostStep, HostSteps, closingRun, closingText}
 use Rattle.pupcopper.proofs.ReportWords.{report-fits, report-wrong}
 
 -- ---- a report, if it has its places

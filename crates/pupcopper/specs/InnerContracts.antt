@@ -1,19 +1,16 @@
 -- For the contracts of inner functions alone, no part of what a call promises: what a reader gives in numbers, a book taken from words,
--- amounts that fit 64 bits with their sign, and a run that stands at a book.
+-- and amounts that fit 64 bits with their sign.
 -- Assumes nothing.
 use Prim.Native.Nat.{ℕ, _^_, _<_}
 use mathlib.Core.Path.{_≡_}
-use mathlib.Core.Bool.{false, cond}
-use mathlib.Core.List.{List, []}
+use mathlib.Core.Bool.{cond}
+use mathlib.Core.List.{List}
 use lib.ListN.{length}
 use lib.IntN.{ℤ}
 use Rattle.rights.specs.declared.reader.Given.{Given}
 use Rattle.rights.specs.Reader.{givenNumber, givenRight, saysNone}
 use Rattle.settlement.specs.declared.Book.{Book}
 use Rattle.settlement.specs.declared.Settled.{Settled}
-use Rattle.settlement_run.specs.declared.Run.{Run}
-use Rattle.settlement_run.specs.Run.{stops}
-use Rattle.settlement_run.specs.Calls.{runAt}
 use Rattle.pupcopper.specs.declared.book_words.Taken.{Taken}
 use Rattle.pupcopper.specs.declared.reports.Told.{Told}
 use Rattle.pupcopper.specs.BookWords.{BookWords, bookFrom}
@@ -41,7 +38,3 @@ pub record ResultFits (result : Settled) : Type 0 where
   pub paidFrom : result .fund < 2 ^ 63
   pub wanted : result .demand < 2 ^ 63
   pub kept : result .refusal ≡ 0 → SurplusesFit (result .book)
-
--- the run that stands at a book, with the refusal that stopped it or 0
-abbrev pub runOf : Book → ℕ → ℕ → Run
-runOf book refusal end = runAt (stops [] refusal 0 0 0 book) false end

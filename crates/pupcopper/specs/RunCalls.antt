@@ -8,15 +8,20 @@ use lib.ListN.{length}
 use Rattle.numbers.specs.Refusals.{answerBy}
 use Rattle.statement_text.specs.Buffer.{textAfter}
 use Rattle.statement_text.specs.Text.{lineRoom}
+use Rattle.settlement.specs.declared.Book.{Book}
 use Rattle.settlement_run.specs.declared.Run.{Run}
 use Rattle.settlement_run.specs.Run.{stops}
 use Rattle.settlement_run.specs.Calls.{runAt, steppedRun, steppedText, lastText, closed}
 use Rattle.pupcopper.specs.BookWords.{BookWords, wordsOf, bookFrom}
 use Rattle.pupcopper.specs.Calls.{numberOf, isWrongReport, wordsRefusal}
 
--- the run that a host's words stand for: its book, the refusal that stopped it or 0, and the end of its text
+-- the run that stands at a book, with the refusal that stopped it or 0, and the end of its text
+abbrev pub runOf : Book → ℕ → ℕ → Run
+runOf book refusal end = runAt (stops [] refusal 0 0 0 book) false end
+
+-- the same at the book that a host's words stand for
 abbrev pub runFrom : BookWords → ℕ → ℕ → Run
-runFrom words refusal end = runAt (stops [] refusal 0 0 0 (bookFrom words)) false end
+runFrom words refusal end = runOf (bookFrom words) refusal end
 
 -- a step's report: 1 if there was too little room, the end of the text, the refused event's letter and number, the record number
 abbrev pub steppedWords : ℕ

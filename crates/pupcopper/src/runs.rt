@@ -1,8 +1,7 @@
 // A run from a host's book, and where it then stands, written into a report.
 ghost use mathlib.Core.Path.{_≡_};
 ghost use Rattle.settlement.specs.Book.{fresh as freshBook};
-ghost use Rattle.pupcopper.specs.InnerContracts.{runOf};
-ghost use Rattle.pupcopper.specs.RunCalls.{steppedWords, steppedReport, closedWords, closedReport, reported};
+ghost use Rattle.pupcopper.specs.RunCalls.{runOf, steppedWords, steppedReport, closedWords, closedReport, reported};
 use settlement::Book;
 use settlement_run::Run;
 

@@ -10,7 +10,7 @@ use Rattle.numbers.specs.Limits.{owners}
 use Rattle.numbers.specs.Lists.{total, listBelow}
 use Rattle.numbers.specs.Signs.{positive, negative}
 use Rattle.numbers.proofs.Counts.{getD-listBelow}
-use Rattle.split.specs.Split.{WithinACent, payments, left}
+use Rattle.split.specs.Split.{WithinACent, left}
 use Rattle.split.proofs.Laws.{payments-length, payment-at, payments-at-most, closes, closes-enough, nothing-left, within-a-cent}
 use Rattle.settlement.specs.declared.Book.{Book}
 use Rattle.settlement.specs.Events.{Call, hourCall, monthEndCall, yearEndCall, nextTargets, targetOf, hourWants, wants, fund, demand, paid, hourLine, hourLines, paymentLines, lines, unpaidOf, addedTo}

@@ -1,4 +1,4 @@
--- The calls that a run makes are a ledger from a fresh book, and what the run prints is the lines of its accepted calls.
+-- The ledger of the calls that a run makes ends in the run's book, and what the run prints is the lines of its accepted calls.
 -- Assumes nothing.
 use Prim.Native.Nat.{ℕ, zero, suc, _+_}
 use mathlib.Core.Path.{_≡_, refl, sym, ap, ap₂, subst, _∙_}

@@ -6,11 +6,10 @@ use mathlib.Core.List.{List, []}
 use lib.Dec.{ltb}
 use lib.ListN.{length}
 use Rattle.numbers.specs.Limits.{owners}
-use Rattle.settlement.specs.Book.{fresh}
 use Rattle.statement_text.specs.Buffer.{textAfter, endAfter}
 use Rattle.statement_text.specs.Text.{lineText, textOf, lineRoom, eventRoom}
 use Rattle.settlement_run.specs.declared.Run.{Run}
-use Rattle.settlement_run.specs.Run.{Part, stops, andThen, stepPart, openingRefusal, lastLine}
+use Rattle.settlement_run.specs.Run.{Part, stops, andThen, stepPart, opening, lastLine}
 
 -- the room that a step asks for behind the end of the text: an hour's lines, a month end's and a year end's
 abbrev pub stepRoom : ℕ
@@ -40,7 +39,7 @@ runAt part full end =
 -- ---- before the first block
 
 abbrev pub begun : Bool → ℕ → Run
-begun readable bytes = runAt (stops [] (openingRefusal readable bytes) 0 0 0 fresh) false 0
+begun readable bytes = runAt (opening readable bytes) false 0
 
 -- ---- a block
 

@@ -2,7 +2,7 @@
 -- Assumes nothing.
 use mathlib.Core.Path.{ap, _∙_}
 use Rattle.settlement.specs.declared.Book.{Book}
-use Rattle.pupcopper.specs.InnerContracts.{runOf}
+use Rattle.pupcopper.specs.RunCalls.{runOf}
 use borrow.Author.Needs.{needs}
 use Rattle.pupcopper.proofs.runs.unmoved.Statement.{statement}
 use Rattle.pupcopper.proofs.runs.unmoved.Tie as tie
