@@ -106,8 +106,8 @@ uint8_t pupcopper_year_end(uint64_t *counts, size_t counts_words, uint64_t *shor
    after it the month end and the year end that are due, and appends `H`, `M` and `Y` lines as the program prints them. Gives the
    refusal that stops the run, 0 if it goes on. A refused event prints no line and leaves the book as it was; what the block settled
    before it stands. Its letter is that of its lines (72, 77, 89), its number the hours settled, the months closed, or 0. In 7 the
-   record number is that of the first bad right, else it is 0. A block of another length than PUPCOPPER_BLOCK is an hour refused with 4, on any
-   book. */
+   record number is that of the first bad right, else it is 0. A block of another length than PUPCOPPER_BLOCK is an hour refused
+   with 4, on any book. */
 uint8_t pupcopper_step(uint64_t *counts, size_t counts_words, uint64_t *shortfalls, size_t shortfalls_words, int64_t *surpluses,
                        size_t surpluses_words, const uint8_t *rights, size_t rights_bytes, const uint8_t *block,
                        size_t block_bytes, uint8_t *text, size_t text_bytes, size_t end, uint64_t *report,
