@@ -8,6 +8,7 @@
 pub mod book;
 pub mod calendar;
 pub mod program;
+pub mod record_words;
 pub mod refusal;
 pub mod rights;
 pub mod sentence;

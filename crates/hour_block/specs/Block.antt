@@ -1,14 +1,15 @@
 -- One hour's input: where the amount and the prices stand in its bytes, and the call that decodes them.
 -- Assumes nothing.
-use Prim.Native.Nat.{ℕ, zero, suc, _+_, _-_, _*_, _^_}
+use Prim.Native.Nat.{ℕ, _+_, _-_, _*_, _^_}
 use mathlib.Core.Bool.{cond, not, _||_}
 use mathlib.Core.List.{List, [], _∷_}
 use lib.Dec.{ltb, eqb}
-use lib.ListN.{length, getD}
+use lib.ListN.{length}
 use lib.IntN.{ℤ, pos, negsuc}
 use Rattle.numbers.specs.Limits.{nodes}
 use Rattle.numbers.specs.Lists.{listBelow}
 use Rattle.numbers.specs.Refusals.{firstRefusal, _if_, answerBy}
+use Rattle.numbers.specs.Words.{word}
 use Rattle.hour_block.specs.declared.Decoded.{Decoded}
 
 -- "collected (64 bits signed), then 1,024 prices (32 bits signed)": so many bytes each, in all "4,104 bytes"
@@ -21,20 +22,15 @@ priceBytes = 4
 abbrev pub hourBytes : ℕ
 hourBytes = amountBytes + nodes * priceBytes
 
--- "low byte first": the number that so many bytes from a place on make
-abbrev pub word : ℕ → List ℕ → ℕ → ℕ
-word zero block at = 0
-word (suc n) block at = word n block at + getD block (at + n) 0 * 256 ^ n
-
 -- "signed": the number that so many bits stand for, in two's complement; negsuc n is -(n + 1)
 abbrev pub signed : ℕ → ℕ → ℤ
 signed bits n = cond (ltb n (2 ^ (bits - 1))) (pos n) (negsuc (2 ^ bits - 1 - n))
 
--- "collected (64 bits signed)"
+-- "collected (64 bits signed)", "low byte first"
 unfoldable pub amountIn : List ℕ → ℤ
 amountIn block = signed 64 (word amountBytes block 0)
 
--- "then 1,024 prices (32 bits signed)"
+-- "then 1,024 prices (32 bits signed)", "low byte first"
 unfoldable pub priceIn : List ℕ → ℕ → ℤ
 priceIn block node = signed 32 (word priceBytes block (amountBytes + node * priceBytes))
 

@@ -1,9 +1,10 @@
 // One hour's input, decoded from its bytes: the amount collected and the prices.
 ghost use mathlib.Core.Path.{_≡_};
-ghost use Prim.Native.Nat.{_+_, _<_, _≤_};
+ghost use Prim.Native.Nat.{_+_, _≤_};
 ghost use lib.ListN.{length};
 ghost use Rattle.numbers.specs.Limits.{nodes};
-ghost use Rattle.hour_block.specs.Block.{amountIn, decoded, hourBytes, pricesAfter, pricesIn, signed, word};
+ghost use Rattle.numbers.specs.Words.{word};
+ghost use Rattle.hour_block.specs.Block.{amountIn, decoded, hourBytes, pricesAfter, pricesIn, signed};
 
 // The bytes of one hour: the amount, and a price for each node.
 pub const HOUR_BYTES: usize = 4104;
@@ -39,7 +40,7 @@ fn write_prices(block: &[u8], prices: &mut [i32])
 {
     let mut node = 0;
     while node < numbers::NODES {
-        prices[node] = signed32(word32(block, 8 + node * 4));
+        prices[node] = signed32(word_at(block, 8 + node * 4));
         node += 1;
     }
 }
@@ -49,30 +50,24 @@ fn amount_of(block: &[u8]) -> i64
     requires { ⌜ length (now block) ≡ hourBytes ⌝ }
     ensures { λ r. ⌜ r ≡ amountIn (now (block .entry)) ⌝ }
 {
-    signed64(wide64(word32(block, 0)) + wide64(word32(block, 4)) * 4294967296)
+    signed64(numbers::word64([
+        block[0],
+        block[1],
+        block[2],
+        block[3],
+        block[4],
+        block[5],
+        block[6],
+        block[7],
+    ]))
 }
 
-// Four bytes, low byte first.
-fn word32(block: &[u8], at: usize) -> u32
+// The word of the four bytes from a place on.
+fn word_at(block: &[u8], at: usize) -> u32
     requires { ⌜ at + 4 ≤ length (now block) ⌝ }
     ensures { λ r. ⌜ r ≡ word 4 (now (block .entry)) at ⌝ }
 {
-    wide32(block[at])
-        + wide32(block[at + 1]) * 256
-        + wide32(block[at + 2]) * 65536
-        + wide32(block[at + 3]) * 16777216
-}
-
-fn wide32(byte: u8) -> u32
-    ensures { λ r. ⌜ (r ≡ byte) × (r < 256) ⌝ }
-{
-    byte as u32
-}
-
-fn wide64(word: u32) -> u64
-    ensures { λ r. ⌜ (r ≡ word) × (r < 4294967296) ⌝ }
-{
-    word as u64
+    numbers::word32([block[at], block[at + 1], block[at + 2], block[at + 3]])
 }
 
 // Two's complement: the upper half of the words are the negative numbers.

@@ -6,3 +6,4 @@ pub mod Refusals
 pub mod Signed
 pub mod SignedParts
 pub mod Tables
+pub mod WordLaws

@@ -3,12 +3,15 @@
 
 mod signs;
 mod sums;
+mod words;
 
 pub use signs::negative_part;
 pub use signs::positive_part;
 pub use sums::capped_total;
 pub use sums::is_sum_above;
 pub use sums::plus_capped;
+pub use words::word32;
+pub use words::word64;
 
 // The owners: lines, wants and cells have a place for each.
 pub const OWNERS: usize = 64;

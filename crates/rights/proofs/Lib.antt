@@ -3,3 +3,4 @@ pub mod Good
 pub mod Readings
 pub mod Steps
 pub mod WholeReading
+pub mod WordsOfRecords

@@ -4,9 +4,10 @@ use Prim.Native.Nat.{ℕ, _+_, _*_, _/_, _%_}
 use mathlib.Core.Bool.{Bool, not, _&&_, _||_}
 use mathlib.Core.List.{List, [], _∷_}
 use lib.Dec.{leb, ltb, eqb}
-use lib.ListN.{length, getD}
+use lib.ListN.{length}
 use Rattle.numbers.specs.Limits.{owners, nodes}
 use Rattle.numbers.specs.Refusals.{firstRefusal, _if_, answerBy}
+use Rattle.numbers.specs.Words.{word}
 use Rattle.calendar.specs.Year.{daysInYear}
 use Rattle.calendar.specs.declared.OperatingHour.{OperatingHour}
 use Rattle.rights.specs.declared.Right.{Right}
@@ -20,31 +21,22 @@ recordBytes = 16
 abbrev pub recordCount : List ℕ → ℕ
 recordCount file = length file / recordBytes
 
--- "low byte first": one, two and four bytes from a place on
-abbrev pub byte8 : List ℕ → ℕ → ℕ
-byte8 file at = getD file at 0
-
-abbrev pub word16 : List ℕ → ℕ → ℕ
-word16 file at = byte8 file at + byte8 file (at + 1) * 256
-
-abbrev pub word32 : List ℕ → ℕ → ℕ
-word32 file at = word16 file at + word16 file (at + 2) * 65536
-
--- the record of a number, from 0: "0: owner", "2: source node", "4: sink node", "6: kind", "7: class",
--- "8: size in tenths of a megawatt", "12: first day", "14: last day"
+-- the record that starts at a place, "low byte first": "0: owner, 16 bits", "2: source node, 16 bits", "4: sink node, 16 bits",
+-- "6: kind, 8 bits", "7: class, 8 bits", "8: size in tenths of a megawatt, 32 bits", "12: first day, 16 bits", "14: last day, 16 bits"
 abbrev pub rightFrom : List ℕ → ℕ → Right
 rightFrom file at =
     record {
-      owner = word16 file at;
-      source = word16 file (at + 2);
-      sink = word16 file (at + 4);
-      kind = byte8 file (at + 6);
-      class = byte8 file (at + 7);
-      size = word32 file (at + 8);
-      first = word16 file (at + 12);
-      last = word16 file (at + 14);
+      owner = word 2 file at;
+      source = word 2 file (at + 2);
+      sink = word 2 file (at + 4);
+      kind = word 1 file (at + 6);
+      class = word 1 file (at + 7);
+      size = word 4 file (at + 8);
+      first = word 2 file (at + 12);
+      last = word 2 file (at + 14);
     }
 
+-- the record of a number, from 0
 abbrev pub rightAt : List ℕ → ℕ → Right
 rightAt file number = rightFrom file (number * recordBytes)
 

@@ -1,3 +1,4 @@
 pub mod Layout
+pub mod RecordWords
 pub mod Faults
 pub mod Reader

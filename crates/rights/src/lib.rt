@@ -1,9 +1,12 @@
 // The rights file: 16-byte records, read by number, and the faults of a whole file.
 ghost use mathlib.Core.Path.{_≡_};
+ghost use mathlib.Core.Bool.{cond};
 ghost use Prim.Native.Nat.{_+_, _*_, _<_, _≤_};
 ghost use lib.ListN.{length};
 ghost use Rattle.numbers.specs.Lists.{lowestBelow};
-ghost use Rattle.rights.specs.Layout.{isGood, isLive, isWrongLength, reading, recordCount, refusedReading, rightFrom, word16, word32};
+ghost use Rattle.numbers.specs.Words.{word};
+ghost use Rattle.rights.specs.Layout.{isGood, isLive, isWrongLength, reading, recordCount, refusedReading, rightFrom};
+ghost use Rattle.rights.specs.RecordWords.{rightOf};
 ghost use Rattle.rights.specs.Faults.{faultAt, faultyRecord, fileRefusal, hasFault, isUnpriced};
 use calendar::OperatingHour;
 
@@ -23,6 +26,17 @@ pub const FILE_BYTES: usize = 65536;
 
 // The largest size of a right, in tenths of a megawatt.
 const MOST_SIZE: u32 = 100000;
+
+// The powers of 256: a word divided by one is without so many low bytes, and the remainder is what these hold.
+const BYTES_1: u64 = 256;
+
+const BYTES_2: u64 = 65_536;
+
+const BYTES_4: u64 = 4_294_967_296;
+
+const BYTES_6: u64 = 281_474_976_710_656;
+
+const BYTES_7: u64 = 72_057_594_037_927_936;
 
 // One record of the file.
 pub struct Right {
@@ -118,11 +132,17 @@ pub fn is_unpriced(right: Right, prices: usize) -> bool
 pub fn is_live(right: Right, hour: OperatingHour) -> bool
     ensures { λ r. ⌜ r ≡ isLive hour right ⌝ }
 {
-    (right.first <= hour.day)
+    (right.class != other_class(hour.peak))
+        & (right.class <= 2)
+        & (right.first <= hour.day)
         & (hour.day <= right.last)
-        & (((right.class == 0) & hour.peak)
-            | ((right.class == 1) & !hour.peak)
-            | (right.class == 2))
+}
+
+// The class of the hours that are not of this kind: 1 off-peak in a peak hour, 0 peak in the others.
+fn other_class(peak: bool) -> u8
+    ensures { λ r. ⌜ r ≡ cond peak 1 0 ⌝ }
+{
+    if peak { 1 } else { 0 }
 }
 
 // The first refusal that a file calls for, with so many prices, and the first record that has the fault.
@@ -186,45 +206,45 @@ fn has_fault(right: Right, prices: usize, refusal: u8) -> bool
     false
 }
 
-// The eight fields of the record that starts at a place.
+// The eight fields of the record that starts at a place, cut from its two words.
 fn decode(file: &[u8], at: usize) -> Right
     requires { ⌜ at + 16 ≤ length (now file) ⌝ }
     ensures { λ r. ⌜ r ≡ rightFrom (now (file .entry)) at ⌝ }
 {
+    let low = word_at(file, at);
+    let high = word_at(file, at + 8);
+    cut(low, high)
+}
+
+// The word of the eight bytes from a place on.
+fn word_at(file: &[u8], at: usize) -> u64
+    requires { ⌜ at + 8 ≤ length (now file) ⌝ }
+    ensures { λ r. ⌜ r ≡ word 8 (now (file .entry)) at ⌝ }
+{
+    numbers::word64([
+        file[at],
+        file[at + 1],
+        file[at + 2],
+        file[at + 3],
+        file[at + 4],
+        file[at + 5],
+        file[at + 6],
+        file[at + 7],
+    ])
+}
+
+// Each field stands in its own bytes of the low or the high word.
+fn cut(low: u64, high: u64) -> Right
+    ensures { λ r. ⌜ r ≡ rightOf low high ⌝ }
+{
     Right {
-        owner: read16(file, at),
-        source: read16(file, at + 2),
-        sink: read16(file, at + 4),
-        kind: file[at + 6],
-        class: file[at + 7],
-        size: read32(file, at + 8),
-        first: read16(file, at + 12),
-        last: read16(file, at + 14),
+        owner: (low % BYTES_2) as u16,
+        source: (low / BYTES_2 % BYTES_2) as u16,
+        sink: (low / BYTES_4 % BYTES_2) as u16,
+        kind: (low / BYTES_6 % BYTES_1) as u8,
+        class: (low / BYTES_7 % BYTES_1) as u8,
+        size: (high % BYTES_4) as u32,
+        first: (high / BYTES_4 % BYTES_2) as u16,
+        last: (high / BYTES_6 % BYTES_2) as u16,
     }
-}
-
-fn read16(file: &[u8], at: usize) -> u16
-    requires { ⌜ at + 2 ≤ length (now file) ⌝ }
-    ensures { λ r. ⌜ r ≡ word16 (now (file .entry)) at ⌝ }
-{
-    wide16(file[at]) + wide16(file[at + 1]) * 256
-}
-
-fn read32(file: &[u8], at: usize) -> u32
-    requires { ⌜ at + 4 ≤ length (now file) ⌝ }
-    ensures { λ r. ⌜ r ≡ word32 (now (file .entry)) at ⌝ }
-{
-    wide32(read16(file, at)) + wide32(read16(file, at + 2)) * 65536
-}
-
-fn wide16(byte: u8) -> u16
-    ensures { λ r. ⌜ (r ≡ byte) × (r < 256) ⌝ }
-{
-    byte as u16
-}
-
-fn wide32(word: u16) -> u32
-    ensures { λ r. ⌜ (r ≡ word) × (r < 65536) ⌝ }
-{
-    word as u32
 }

@@ -8,7 +8,7 @@ use native.Mathlib.Nat.{le-refl, le-trans, le-of-eq, mul-le-mul}
 use native.Mathlib.Omega.{arith}
 use lib.Dec.{leb, ltb, eqb}
 use lib.ListN.{length, List·getD-eq-default}
-use lib.IntN.{ℤ, pos, negsuc, natAbs, _*ℤ_}
+use lib.IntN.{ℤ, pos, negsuc, natAbs}
 use borrow.Author.Tests.{ltb-false, leb-true, leb-false}
 use Rattle.numbers.proofs.Any.{any-miss}
 use Rattle.numbers.proofs.Signed.{abs-sub, abs-mul}
@@ -17,7 +17,7 @@ use Rattle.calendar.specs.declared.OperatingHour.{OperatingHour}
 use Rattle.rights.specs.declared.Right.{Right}
 use Rattle.rights.specs.Layout.{mostSize, isGood, isLive}
 use Rattle.rights.proofs.Good.{good-size}
-use Rattle.target.specs.Target.{mostPrice, priceAt, isWild, wildAt, anyWild, spread, notNegative, counted, worth}
+use Rattle.target.specs.Target.{mostPrice, priceAt, isWild, wildAt, anyWild, spread, notNegative, counted, liveWorth, worth}
 
 tame : (price : ℤ) → isWild price ≡ false → natAbs price ≤ mostPrice
 tame (pos n) e = ltb-false mostPrice n (neither-true false (ltb mostPrice n) e .1)
@@ -48,9 +48,8 @@ module _ (prices : List ℤ) (no-wild : anyWild prices ≡ false) where
       omega
       (arith, counted-most (eqb (right .kind) 1) (spread prices right), abs-sub (priceAt prices (right .sink)) (priceAt prices (right .source)), price-most (right .sink), price-most (right .source))
 
-  live-most : (hour : OperatingHour) (right : Right) → isGood right ≡ true
-      → natAbs (pos (right .size) *ℤ counted (right .kind) (spread prices right)) ≤ mostSize * (mostPrice + mostPrice)
-  live-most hour right good =
+  live-most : (right : Right) → isGood right ≡ true → natAbs (liveWorth prices right) ≤ mostSize * (mostPrice + mostPrice)
+  live-most right good =
       le-trans (le-of-eq (abs-mul (pos (right .size)) (counted (right .kind) (spread prices right))))
       (mul-le-mul (good-size right good) (counted-gain-most right))
 
@@ -58,7 +57,16 @@ module _ (prices : List ℤ) (no-wild : anyWild prices ≡ false) where
   unfolding worth
   worth-most hour right good = by-test (isLive hour right)
     where
-      by-test : (live : Bool)
-          → natAbs (cond live (pos (right .size) *ℤ counted (right .kind) (spread prices right)) (pos 0)) ≤ mostSize * (mostPrice + mostPrice)
-      by-test true = live-most hour right good
+      by-test : (live : Bool) → natAbs (cond live (liveWorth prices right) (pos 0)) ≤ mostSize * (mostPrice + mostPrice)
+      by-test true = live-most right good
       by-test false = zero-le
+
+-- what a right is worth, by whether it is live
+module _ (prices : List ℤ) (hour : OperatingHour) (right : Right) where
+  pub worth-live : isLive hour right ≡ true → worth prices hour right ≡ liveWorth prices right
+  unfolding worth
+  worth-live live = rw live
+
+  pub worth-not-live : isLive hour right ≡ false → worth prices hour right ≡ pos 0
+  unfolding worth
+  worth-not-live other = rw other

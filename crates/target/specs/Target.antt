@@ -41,10 +41,13 @@ notNegative (negsuc n) = pos 0
 abbrev pub counted : ℕ → ℤ → ℤ
 counted kind gain = cond (eqb kind 1) (notNegative gain) gain
 
--- "size times spread: tenths of a cent", for a live right
+-- "size times spread: tenths of a cent", of a live right
+abbrev pub liveWorth : List ℤ → Right → ℤ
+liveWorth prices right = pos (right .size) *ℤ counted (right .kind) (spread prices right)
+
+-- a right that is not live is worth nothing
 unfoldable pub worth : List ℤ → OperatingHour → Right → ℤ
-worth prices hour right =
-    cond (isLive hour right) (pos (right .size) *ℤ counted (right .kind) (spread prices right)) (pos 0)
+worth prices hour right = cond (isLive hour right) (liveWorth prices right) (pos 0)
 
 -- what the record of a number is worth to an owner
 unfoldable pub worthTo : List ℕ → List ℤ → OperatingHour → ℕ → ℕ → ℤ

@@ -2,7 +2,7 @@
 ghost use mathlib.Core.Path.{_≡_};
 ghost use mathlib.Core.Bool.{false, true};
 ghost use Prim.Native.Nat.{_+_, _*_, _^_, _≤_, _<_};
-ghost use lib.ListN.{getD, length, replicate};
+ghost use lib.ListN.{getD, length, replicate, set};
 ghost use lib.IntN.{natAbs, pos, _+ℤ_, _-ℤ_, _*ℤ_};
 ghost use Rattle.numbers.specs.Limits.{owners};
 ghost use Rattle.numbers.specs.Lists.{listBelow};
@@ -11,7 +11,7 @@ ghost use Rattle.rights.specs.Layout.{isGood, isWrongLength, mostSize};
 ghost use Rattle.rights.specs.Faults.{faultyRecord, isUnpriced};
 ghost use Rattle.target.specs.Rounding.{roundTenths};
 ghost use Rattle.target.specs.InnerContracts.{Added};
-ghost use Rattle.target.specs.Target.{anyWild, counted, isWild, isWrongPriceCount, lentRows, mostPrice, targetLines, targetRefusal, worth};
+ghost use Rattle.target.specs.Target.{anyWild, counted, isWild, isWrongPriceCount, lentRows, liveWorth, mostPrice, targetLines, targetRefusal, worth};
 use calendar::OperatingHour;
 use numbers::OWNERS;
 use rights::Outcome;
@@ -94,14 +94,27 @@ fn add_rights(rights: &[u8], prices: &[i32], hour: OperatingHour, sums: &mut [i6
             return false;
         }
         let right = reading.right;
-        if rights::is_unpriced(right, prices.len()) {
+        // A good right's nodes are below 1,024: with as many prices none is missing.
+        if (prices.len() < numbers::NODES) & rights::is_unpriced(right, prices.len()) {
             return false;
         }
-        let owner = right.owner as usize;
-        sums[owner] = plus(sums[owner], worth_of(right, prices, hour));
+        add_worth(right, prices, hour, sums);
         number += 1;
     }
     true
+}
+
+// Adds a right's worth to its owner's sum; one that is not live leaves the sums as they are.
+fn add_worth(right: Right, prices: &[i32], hour: OperatingHour, sums: &mut [i64; OWNERS])
+    requires { ⌜ (isGood right ≡ true) × (isUnpriced (length (now prices)) right ≡ false) × (anyWild (now prices) ≡ false) ⌝ }
+    requires { ⌜ natAbs (getD (now sums) (right .owner) (pos 0)) + natAbs (worth (now prices) hour right) < 2 ^ 63 ⌝ }
+    ensures { λ _. ⌜ now (sums .exit) ≡ set (now (sums .entry)) (right .owner) (getD (now (sums .entry)) (right .owner) (pos 0) +ℤ worth (now (prices .entry)) hour right) ⌝ }
+{
+    if !rights::is_live(right, hour) {
+        return;
+    }
+    let owner = right.owner as usize;
+    sums[owner] = plus(sums[owner], worth_of(right, prices));
 }
 
 // Writes each owner's target from its sum.
@@ -135,19 +148,15 @@ fn is_wild(price: i32) -> bool
     (price < -MOST_PRICE) | (MOST_PRICE < price)
 }
 
-// A right's tenths of a cent in an hour; 0 where it is not live.
-fn worth_of(right: Right, prices: &[i32], hour: OperatingHour) -> i64
+// A live right's tenths of a cent.
+fn worth_of(right: Right, prices: &[i32]) -> i64
     requires { ⌜ (isGood right ≡ true) × (isUnpriced (length (now prices)) right ≡ false) × (anyWild (now prices) ≡ false) ⌝ }
-    ensures { λ r. ⌜ r ≡ worth (now (prices .entry)) hour right ⌝ }
+    ensures { λ r. ⌜ r ≡ liveWorth (now (prices .entry)) right ⌝ }
 {
-    if rights::is_live(right, hour) {
-        let sink = right.sink as usize;
-        let source = right.source as usize;
-        let gain = less(prices[sink], prices[source]);
-        times(right.size, counted_gain(right.kind, gain))
-    } else {
-        0
-    }
+    let sink = right.sink as usize;
+    let source = right.source as usize;
+    let gain = less(prices[sink], prices[source]);
+    times(right.size, counted_gain(right.kind, gain))
 }
 
 fn less(high: i32, low: i32) -> i64

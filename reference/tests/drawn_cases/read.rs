@@ -1,6 +1,8 @@
 //! The read by record number.
 
 use reference::draws::Draws;
+use reference::record_words::{cut, words as words_of};
+use reference::rights::{decode, encode, Right, RECORD};
 use reference::words;
 
 use crate::compare::{Case, Input, Kind};
@@ -77,5 +79,47 @@ fn any_record() {
             ..Lent::default()
         };
         compare_read(case, &Place { rights, record }, &lent);
+    });
+}
+
+fn draw_good(draws: &mut Draws) -> [u8; RECORD] {
+    let (source, first) = (draws.below(1_024), draws.below(365) + 1);
+    encode(&Right {
+        owner: draws.below(64),
+        source,
+        sink: (source + 1 + draws.below(1_023)) % 1_024,
+        kind: draws.below(2),
+        class: draws.below(3),
+        size: draws.below(100_000) + 1,
+        first,
+        last: first + draws.below(366 - first),
+    })
+}
+
+/// A good record, and each of its bytes in turn as each of the 256 values: every
+/// bit of every field is cut from its own place of the two words.
+#[test]
+fn each_byte_of_a_record() {
+    let kind = Kind {
+        test: "read::each_byte_of_a_record",
+        base: Some(3_935_559_000_370_003_845),
+        cases: 60,
+        refusals: &[("read", &[0, 7])],
+    };
+    kind.run(|case| {
+        let good = draw_good(&mut case.draws);
+        let lent = Lent {
+            report: old_words(&mut case.draws, words::RIGHT),
+            ..Lent::default()
+        };
+        for place in 0..RECORD {
+            for value in 0..=255 {
+                let mut record = good;
+                record[place] = value;
+                assert_eq!(cut(words_of(&record)), decode(&record));
+                let rights = Row::lent(&record, RECORD, || value);
+                compare_read(case, &Place { rights, record: 0 }, &lent);
+            }
+        }
     });
 }

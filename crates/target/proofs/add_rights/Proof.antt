@@ -1,22 +1,22 @@
 -- `target::add_rights` meets its contract: the laws of the pass, at each place of the loop.
 -- Assumes nothing.
-use Prim.Native.Nat.{_+_, _-_, _*_, _<_, _≤_}
-use mathlib.Core.Path.{_≡_, refl, sym, ap, ap₂, subst, _∙_}
-use mathlib.Core.Bool.{true, false}
+use Prim.Native.Nat.{ℕ, _+_, _-_, _*_, _≤_}
+use mathlib.Core.Path.{_≡_, refl, sym, ap, subst, _∙_}
+use mathlib.Core.Bool.{Bool, true, false, _&&_}
+use mathlib.Core.List.{List}
 use native.Mathlib.Omega.{arith}
-use lib.ListN.{length, getD, set}
-use lib.IntN.{ℤ, pos, natAbs, _+ℤ_}
-use mir.Syntax.{w64}
-use mir.Val.{toZ, ofZ}
-use mir.ValLaws.{toZ-ofZ}
+use lib.Dec.{ltb}
+use lib.ListN.{length, getD}
+use lib.IntN.{ℤ, pos, natAbs}
 use borrow.Author.Needs.{needs}
-use Rattle.numbers.specs.Limits.{owners}
+use borrow.Author.Tests.{ltb-false}
+use Rattle.numbers.specs.Limits.{nodes}
 use Rattle.rights.specs.declared.Reading.{Reading}
+use Rattle.rights.specs.declared.Right.{Right}
 use Rattle.rights.specs.Layout.{recordCount, rightAt, isGood, reading}
 use Rattle.rights.specs.Faults.{isUnpriced}
 use Rattle.rights.proofs.Readings.{records-most, accepted-good, accepted-right, refused-bad}
-use Rattle.rights.proofs.Good.{good-owner}
-use Rattle.target.specs.Target.{worth}
+use Rattle.rights.proofs.Good.{good-owner, good-priced}
 use Rattle.target.proofs.Worth.{worth-most}
 use Rattle.target.proofs.Pass.{mostWorth, Passed, begins, passes, stops-bad, stops-unpriced, ends}
 use Rattle.target.proofs.add_rights.Statement.{statement}
@@ -28,43 +28,54 @@ Inv-loop rights prices hour sums₀ records number₀ sums number = Passed right
 abbrev μ-loop : tie.MeasureT-loop
 μ-loop rights prices hour sums₀ records number₀ sums number = recordCount rights - number
 
--- the record that the read gave is the file's, and good
-read-accepted : (c : tie.Else1 Inv-loop μ-loop)
-    → reading (c .before .before .before .before .before .before .args .rights .now) (c .before .before .before .before .loop .number) .refusal ≡ 0
-read-accepted c = ap (λ (r : Reading). r .refusal) (sym (c .before .before .read .ensures)) ∙ c .if1 .left
+-- a record that the read accepted: where the pass stands, and what is lent
+module _ (c : tie.Else1 Inv-loop μ-loop) where
+  abbrev file : List ℕ
+  file = c .before .before .before .before .before .before .args .rights .now
 
-right-is : (c : tie.Else1 Inv-loop μ-loop)
-    → c .before .before .read .result .right ≡ rightAt (c .before .before .before .before .before .before .args .rights .now) (c .before .before .before .before .loop .number)
-right-is c =
-    ap (λ (r : Reading). r .right) (c .before .before .read .ensures)
-    ∙ accepted-right _ _ (c .before .before .before .before .before .before .pre .0) (c .before .before .before .loop-test .taken) (read-accepted c)
+  abbrev prices : List ℤ
+  prices = c .before .before .before .before .before .before .args .prices .now
 
-right-good : (c : tie.Else1 Inv-loop μ-loop) → isGood (c .before .before .read .result .right) ≡ true
-right-good c =
-    ap isGood (right-is c) ∙ accepted-good _ _ (c .before .before .before .before .before .before .pre .0) (c .before .before .before .loop-test .taken) (read-accepted c)
+  abbrev number : ℕ
+  number = c .before .before .before .before .loop .number
 
-right-priced : (c : tie.Else2 Inv-loop μ-loop)
-    → isUnpriced (length (c .before .before .before .before .before .before .before .before .before .args .prices .now)) (c .before .before .before .before .before .read .result .right) ≡ false
-right-priced c = sym (c .before .is-unpriced .ensures) ∙ c .if2 .left
+  abbrev sums : List ℤ
+  sums = c .before .before .before .before .loop .sums
 
--- an owner's number is one of the owners
-own : (c : tie.Else1 Inv-loop μ-loop) → c .before .before .read .result .right .owner < owners
-own c = omega (arith, good-owner (c .before .before .read .result .right) (right-good c))
+  abbrev right : Right
+  right = c .before .before .read .result .right
 
--- the numbers read back from their bits
-sum-back : (c : tie.After-plus-arg Inv-loop μ-loop)
-    → toZ w64 (ofZ w64 (getD (c .before .before .before .before .before .before .before .before .before .loop .sums) (c .before .before .before .before .before .before .before .read .result .right .owner) (pos 0)))
-    ≡ getD (c .before .before .before .before .before .before .before .before .before .loop .sums) (c .before .before .before .before .before .before .before .read .result .right .owner) (pos 0)
-sum-back c = toZ-ofZ w64 _ (record { sfits = c .plus-arg .given })
+  read-accepted : reading file number .refusal ≡ 0
+  read-accepted = ap (λ (r : Reading). r .refusal) (sym (c .before .before .read .ensures)) ∙ c .if1 .left
 
-worth-back : (c : tie.After-worth-of Inv-loop μ-loop)
-    → toZ w64 (ofZ w64 (c .worth-of .result)) ≡ worth (c .before .before .before .before .before .before .before .before .before .before .before .before .args .prices .now) (c .before .before .before .before .before .before .before .before .before .before .before .before .args .hour) (c .before .before .before .before .before .before .before .before .read .result .right)
-worth-back c = toZ-ofZ w64 _ (record { sfits = c .worth-of .ok }) ∙ c .worth-of .ensures
+  -- it is the file's, and good
+  right-is : right ≡ rightAt file number
+  right-is =
+      ap (λ (r : Reading). r .right) (c .before .before .read .ensures)
+      ∙ accepted-right file number (c .before .before .before .before .before .before .pre .0) (c .before .before .before .loop-test .taken) read-accepted
 
-sum-small : (c : tie.After-plus-arg Inv-loop μ-loop)
-    → natAbs (getD (c .before .before .before .before .before .before .before .before .before .loop .sums) (c .before .before .before .before .before .before .before .read .result .right .owner) (pos 0)) ≤ c .before .before .before .before .before .before .before .before .before .loop .number * mostWorth
-sum-small c =
-    rw (c .before .before .before .before .before .before .before .before .before .loop .inv .each (c .before .before .before .before .before .before .before .read .result .right .owner) (own (c .before .before .before .before .before))) (c .before .before .before .before .before .before .before .before .before .loop .inv .small (c .before .before .before .before .before .before .before .read .result .right .owner))
+  right-good : isGood right ≡ true
+  right-good =
+      ap isGood right-is
+      ∙ accepted-good file number (c .before .before .before .before .before .before .pre .0) (c .before .before .before .loop-test .taken) read-accepted
+
+  -- where there are as many prices as nodes it need not be asked whether the right is unpriced
+  asked : (ltb (length prices) nodes && isUnpriced (length prices) right) ≡ isUnpriced (length prices) right
+  asked = by-test (ltb (length prices) nodes) refl
+    where
+      by-test : (fewer : Bool) → ltb (length prices) nodes ≡ fewer → (fewer && isUnpriced (length prices) right) ≡ isUnpriced (length prices) right
+      by-test true e = refl
+      by-test false e = sym (good-priced right right-good (length prices) (ltb-false (length prices) nodes e))
+
+  sum-small : natAbs (getD sums (right .owner) (pos 0)) ≤ number * mostWorth
+  sum-small =
+      rw (c .before .before .before .before .loop .inv .each (right .owner) (good-owner right right-good))
+      (c .before .before .before .before .loop .inv .small (right .owner))
+
+-- what the test gives is whether the right is unpriced
+unpriced-is : (c : tie.After-is-unpriced Inv-loop μ-loop)
+    → (ltb (length (prices (c .before .before))) nodes && c .is-unpriced .result) ≡ isUnpriced (length (prices (c .before .before))) (right (c .before .before))
+unpriced-is c = ap (λ (b : Bool). ltb (length (prices (c .before .before))) nodes && b) (c .is-unpriced .ensures) ∙ asked (c .before .before)
 
 loop-holds : tie.Need-loop-holds Inv-loop μ-loop
 loop-holds c = begins _ _ _ _ (c .before .pre .2)
@@ -83,32 +94,22 @@ is-unpriced-requires c κs = search needs
 
 returns-2 : tie.Need-returns-2 Inv-loop μ-loop
 returns-2 c =
-    stops-unpriced _ _ _ _ _ (c .before .before .before .before .before .before .before .loop .inv) (c .before .before .before .before .before .read .result .right) (right-is (c .before .before .before)) (c .before .before .before .before .before .before .loop-test .taken)
-    (sym (c .before .is-unpriced .ensures) ∙ c .if2 .taken) _
+    let e = c .before .before .before in
+    stops-unpriced _ _ _ _ _ (e .before .before .before .before .loop .inv) (right e) (right-is e) (e .before .before .before .loop-test .taken)
+    (sym (unpriced-is (c .before)) ∙ c .if2 .taken) _
 
-cast-owner : tie.Need-cast-owner Inv-loop μ-loop
-cast-owner c = search needs
+right-priced : (c : tie.Else2 Inv-loop μ-loop)
+    → isUnpriced (length (prices (c .before .before .before))) (right (c .before .before .before)) ≡ false
+right-priced c = sym (unpriced-is (c .before)) ∙ c .if2 .left
 
-mul-plus : tie.Need-mul-plus Inv-loop μ-loop
-mul-plus c = omega (arith, own (c .before .before .before .before))
-
-element-copy-out-plus : tie.Need-element-copy-out-plus Inv-loop μ-loop
-element-copy-out-plus c = own (c .before .before .before .before)
-
-worth-of-requires : tie.Need-worth-of-requires Inv-loop μ-loop
-worth-of-requires c κs = (right-good (c .before .before .before .before .before), right-priced (c .before .before), c .before .before .before .before .before .before .before .before .before .before .before .pre .1)
-
-plus-requires : tie.Need-plus-requires Inv-loop μ-loop
-plus-requires c κs =
-    rw (sum-back (c .before), worth-back c)
-    (omega
-    (arith, sum-small (c .before), worth-most (c .before .before .before .before .before .before .before .before .before .before .before .before .args .prices .now) (c .before .before .before .before .before .before .before .before .before .before .before .before .pre .1) (c .before .before .before .before .before .before .before .before .before .before .before .before .args .hour) (c .before .before .before .before .before .before .before .before .read .result .right) (right-good (c .before .before .before .before .before .before)), records-most (c .before .before .before .before .before .before .before .before .before .before .before .before .args .rights .now) (c .before .before .before .before .before .before .before .before .before .before .before .before .pre .0), c .before .before .before .before .before .before .before .before .before .loop-test .taken))
-
-mul-t20 : tie.Need-mul-t20 Inv-loop μ-loop
-mul-t20 c = omega (arith, own (c .before .before .before .before .before .before .before))
-
-element-set-from-sums : tie.Need-element-set-from-sums Inv-loop μ-loop
-element-set-from-sums c = own (c .before .before .before .before .before .before .before)
+add-worth-requires : tie.Need-add-worth-requires Inv-loop μ-loop
+add-worth-requires c κs =
+    let e = c .before .before .before .before in
+    let start = e .before .before .before .before .before .before in (
+      (right-good e, right-priced (c .before), start .pre .1),
+      omega
+          (arith, sum-small e, worth-most (prices e) (start .pre .1) (start .args .hour) (right e) (right-good e), records-most (file e) (start .pre .0), e .before .before .before .loop-test .taken),
+    )
 
 add-number : tie.Need-add-number Inv-loop μ-loop
 add-number c = omega arith
@@ -118,13 +119,10 @@ loop-less c = omega arith
 
 loop-again : tie.Need-loop-again Inv-loop μ-loop
 loop-again c =
-    subst
-    (λ (z : ℤ). Passed (c .before .before .before .before .before .before .before .before .before .before .before .before .before .args .rights .now) (c .before .before .before .before .before .before .before .before .before .before .before .before .before .args .prices .now) (c .before .before .before .before .before .before .before .before .before .before .before .before .before .args .hour) (set (c .before .before .before .before .before .before .before .before .before .before .before .loop .sums) (c .before .before .before .before .before .before .before .before .before .read .result .right .owner) z) (c .before .before .before .before .before .before .before .before .before .before .before .loop .number + 1))
-    (sym
-    (toZ-ofZ w64 _ (record { sfits = c .plus .ok })
-    ∙ c .plus .ensures
-    ∙ ap₂ (λ (x y : ℤ). x +ℤ y) (sum-back (c .before .before)) (worth-back (c .before))))
-    (passes _ _ _ _ _ (c .before .before .before .before .before .before .before .before .before .before .before .loop .inv) (c .before .before .before .before .before .before .before .before .before .read .result .right) (right-is (c .before .before .before .before .before .before .before)) (c .before .before .before .before .before .before .before .before .before .before .loop-test .taken) (c .before .before .before .before .before .before .before .before .before .before .before .before .before .pre .1) (right-good (c .before .before .before .before .before .before .before)) (right-priced (c .before .before .before .before)))
+    let e = c .before .before .before .before .before in
+    let start = e .before .before .before .before .before .before in
+    subst (λ (l : List ℤ). Passed (file e) (prices e) (start .args .hour) l (number e + 1)) (sym (c .add-worth .ensures))
+    (passes _ _ _ _ _ (e .before .before .before .before .loop .inv) (right e) (right-is e) (e .before .before .before .loop-test .taken) (start .pre .1) (right-good e) (right-priced (c .before .before)))
 
 returns-3 : tie.Need-returns-3 Inv-loop μ-loop
 returns-3 c = ends _ _ _ _ _ (c .before .loop .inv) (c .loop-test .left)
@@ -140,13 +138,7 @@ add-rights-spec =
     returns
     is-unpriced-requires
     returns-2
-    cast-owner
-    mul-plus
-    element-copy-out-plus
-    worth-of-requires
-    plus-requires
-    mul-t20
-    element-set-from-sums
+    add-worth-requires
     add-number
     loop-less
     loop-again

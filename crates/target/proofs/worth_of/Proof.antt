@@ -1,6 +1,6 @@
--- `target::worth_of` meets its contract: a live right is worth size times spread, and the product fits.
+-- `target::worth_of` meets its contract: size times spread, and the product fits.
 -- Assumes nothing.
-use mathlib.Core.Path.{_≡_, sym, ap, ap₂, _∙_}
+use mathlib.Core.Path.{_≡_, ap, ap₂, _∙_}
 use mathlib.Core.List.{List}
 use lib.IntN.{ℤ, pos, _-ℤ_, _*ℤ_}
 use mir.Syntax.{w32, w64}
@@ -8,7 +8,7 @@ use mir.Val.{toZ, ofZ}
 use mir.ValLaws.{toZ-ofZ}
 use Rattle.rights.proofs.Good.{good-size, source-priced, sink-priced}
 use Rattle.rights.specs.declared.Right.{Right}
-use Rattle.target.specs.Target.{priceAt, spread, counted, worth}
+use Rattle.target.specs.Target.{priceAt, spread, counted}
 use Rattle.target.proofs.Worth.{counted-gain-most}
 use borrow.Author.Needs.{needs}
 use Rattle.target.proofs.worth_of.Statement.{statement}
@@ -16,14 +16,14 @@ use Rattle.target.proofs.worth_of.Tie as tie
 
 -- what counted_gain gives is the right's counted spread
 gain-is : (c : tie.After-counted-gain)
-    → c .counted-gain .result ≡ counted (c .before .before .before .before .before .before .before .before .args .right .kind) (spread (c .before .before .before .before .before .before .before .before .args .prices .now) (c .before .before .before .before .before .before .before .before .args .right))
-gain-is c = c .counted-gain .ensures ∙ ap (counted (c .before .before .before .before .before .before .before .before .args .right .kind)) (toZ-ofZ w64 _ (record { sfits = c .before .less .ok }) ∙ difference)
+    → c .counted-gain .result ≡ counted (c .before .before .before .before .before .before .args .right .kind) (spread (c .before .before .before .before .before .before .args .prices .now) (c .before .before .before .before .before .before .args .right))
+gain-is c = c .counted-gain .ensures ∙ ap (counted (c .before .before .before .before .before .before .args .right .kind)) (toZ-ofZ w64 _ (record { sfits = c .before .less .ok }) ∙ difference)
   where
     right : Right
-    right = c .before .before .before .before .before .before .before .before .args .right
+    right = c .before .before .before .before .before .before .args .right
 
     prices : List ℤ
-    prices = c .before .before .before .before .before .before .before .before .args .prices .now
+    prices = c .before .before .before .before .before .before .args .prices .now
 
     difference : c .before .less .result ≡ spread prices right
     difference =
@@ -35,9 +35,6 @@ gain-is c = c .counted-gain .ensures ∙ ap (counted (c .before .before .before 
 gain-back : (c : tie.After-counted-gain) → toZ w64 (ofZ w64 (c .counted-gain .result)) ≡ c .counted-gain .result
 gain-back c = toZ-ofZ w64 (c .counted-gain .result) (record { sfits = c .counted-gain .ok })
 
-is-live-requires : tie.Need-is-live-requires
-is-live-requires c κs = search needs
-
 cast-sink : tie.Need-cast-sink
 cast-sink c = search needs
 
@@ -48,13 +45,13 @@ mul-less : tie.Need-mul-less
 mul-less c = search needs
 
 shared-slice-copy-out-less : tie.Need-shared-slice-copy-out-less
-shared-slice-copy-out-less c = sink-priced _ (c .before .before .before .before .args .right) (c .before .before .before .before .pre .1)
+shared-slice-copy-out-less c = sink-priced _ (c .before .before .args .right) (c .before .before .pre .1)
 
 mul-less-2 : tie.Need-mul-less-2
 mul-less-2 c = search needs
 
 shared-slice-copy-out-less-2 : tie.Need-shared-slice-copy-out-less-2
-shared-slice-copy-out-less-2 c = source-priced _ (c .before .before .before .before .before .args .right) (c .before .before .before .before .before .pre .1)
+shared-slice-copy-out-less-2 c = source-priced _ (c .before .before .before .args .right) (c .before .before .before .pre .1)
 
 less-requires : tie.Need-less-requires
 less-requires c κs = search needs
@@ -64,27 +61,20 @@ counted-gain-requires c κs = search needs
 
 times-requires : tie.Need-times-requires
 times-requires c κs = (
-  good-size (c .before .before .before .before .before .before .before .before .args .right) (c .before .before .before .before .before .before .before .before .pre .0),
-  rw (gain-back c, gain-is c) (counted-gain-most _ (c .before .before .before .before .before .before .before .before .pre .2) (c .before .before .before .before .before .before .before .before .args .right)),
+  good-size (c .before .before .before .before .before .before .args .right) (c .before .before .before .before .before .before .pre .0),
+  rw (gain-back c, gain-is c) (counted-gain-most _ (c .before .before .before .before .before .before .pre .2) (c .before .before .before .before .before .before .args .right)),
 )
 
 returns : tie.Need-returns
-unfolding worth
 returns c =
-    rw (sym (c .before .before .before .before .before .before .before .before .is-live .ensures) ∙ c .before .before .before .before .before .before .before .if1 .taken)
-    (toZ-ofZ w64 (c .times .result) (record { sfits = c .times .ok })
+    toZ-ofZ w64 (c .times .result) (record { sfits = c .times .ok })
     ∙ c .times .ensures
-    ∙ ap (λ (gain : ℤ). pos (c .before .before .before .before .before .before .before .before .before .args .right .size) *ℤ gain) (gain-back (c .before) ∙ gain-is (c .before)))
-
-returns-2 : tie.Need-returns-2
-unfolding worth
-returns-2 c = rw (sym (c .before .is-live .ensures) ∙ c .if1 .left)
+    ∙ ap (λ (gain : ℤ). pos (c .before .before .before .before .before .before .before .args .right .size) *ℤ gain) (gain-back (c .before) ∙ gain-is (c .before))
 
 pub worth-of-spec : {M : Type 1} → statement M
 worth-of-spec =
     tie.close
     (tie.spec
-    is-live-requires
     cast-sink
     cast-source
     mul-less
@@ -94,5 +84,4 @@ worth-of-spec =
     less-requires
     counted-gain-requires
     times-requires
-    returns
-    returns-2)
+    returns)
