@@ -1,12 +1,14 @@
 // The rights file: 16-byte records, read by number, and the faults of a whole file.
 ghost use mathlib.Core.Path.{_≡_};
-ghost use mathlib.Core.Bool.{cond};
+ghost use mathlib.Core.Bool.{cond, _&&_};
 ghost use Prim.Native.Nat.{_+_, _*_, _<_, _≤_};
+ghost use lib.Dec.{leb, ltb};
 ghost use lib.ListN.{length};
+ghost use Rattle.numbers.specs.Limits.{nodes, owners};
 ghost use Rattle.numbers.specs.Lists.{lowestBelow};
-ghost use Rattle.numbers.specs.Words.{word};
+ghost use Rattle.numbers.specs.Words.{partOf, word};
 ghost use Rattle.rights.specs.Layout.{isGood, isLive, isWrongLength, reading, recordCount, refusedReading, rightFrom};
-ghost use Rattle.rights.specs.RecordWords.{rightOf};
+ghost use Rattle.rights.specs.RecordWords.{highWord, lowWord, rightOf};
 ghost use Rattle.rights.specs.Faults.{faultAt, faultyRecord, fileRefusal, hasFault, isUnpriced};
 use calendar::OperatingHour;
 
@@ -50,6 +52,12 @@ pub struct Right {
     pub last: u16,
 }
 
+// The two words of a record: its bytes 0 to 7, and 8 to 15.
+struct Words {
+    low: u64,
+    high: u64,
+}
+
 // What a read by record number gives.
 pub struct Reading {
     pub refusal: u8,
@@ -74,8 +82,9 @@ pub fn read(file: &[u8], number: u64) -> Reading
     if bytes / RECORD_BYTES <= place {
         return refused(4);
     }
-    let right = decode(file, place * RECORD_BYTES);
-    if is_good(right) {
+    let words = words_at(file, place * RECORD_BYTES);
+    if is_good(words) {
+        let right = cut(words);
         Reading { refusal: 0, right }
     } else {
         refused(7)
@@ -107,18 +116,28 @@ pub fn wrong_length(bytes: usize) -> bool
 }
 
 // Whether each field has a good value.
-fn is_good(right: Right) -> bool
-    ensures { λ r. ⌜ r ≡ isGood right ⌝ }
+fn is_good(words: Words) -> bool
+    ensures { λ r. ⌜ r ≡ isGood (rightOf (words .low) (words .high)) ⌝ }
 {
-    ((right.owner as usize) < numbers::OWNERS)
-        & (((right.source as usize) < numbers::NODES)
-            & ((right.sink as usize) < numbers::NODES)
-            & (right.sink != right.source))
-        & ((right.kind <= 1) & (right.class <= 2))
+    let right = cut(words);
+    within_limits(words.low)
+        & (right.sink != right.source)
+        & (right.class <= 2)
         & ((1 <= right.size) & (right.size <= MOST_SIZE))
         & ((1 <= right.first)
             & (right.first <= right.last)
             & (right.last <= calendar::DAYS_IN_YEAR))
+}
+
+// Whether owner, source, sink and kind are within their limits. Asked of the word, and not of the fields cut from it, it is one test for
+// the compiler: that the bits above the limits are 0.
+fn within_limits(low: u64) -> bool
+    ensures { λ r. ⌜ r ≡ (ltb (partOf 2 low 0) owners && ltb (partOf 2 low 2) nodes && ltb (partOf 2 low 4) nodes && leb (partOf 1 low 6) 1) ⌝ }
+{
+    (low % BYTES_2 < numbers::OWNERS as u64)
+        & (low / BYTES_2 % BYTES_2 < numbers::NODES as u64)
+        & (low / BYTES_4 % BYTES_2 < numbers::NODES as u64)
+        & (low / BYTES_6 % BYTES_1 <= 1)
 }
 
 // Whether a node of the right has no price among so many.
@@ -184,8 +203,8 @@ fn first_fault(file: &[u8], prices: usize, refusal: u8) -> usize
     let records = file.len() / RECORD_BYTES;
     let mut number = 0;
     while number < records {
-        let right = decode(file, number * RECORD_BYTES);
-        if has_fault(right, prices, refusal) {
+        let words = words_at(file, number * RECORD_BYTES);
+        if has_fault(words, prices, refusal) {
             return number;
         }
         number += 1;
@@ -193,27 +212,28 @@ fn first_fault(file: &[u8], prices: usize, refusal: u8) -> usize
     number
 }
 
-// Whether the right has the fault that a refusal stands for: 7 or 8.
-fn has_fault(right: Right, prices: usize, refusal: u8) -> bool
-    ensures { λ r. ⌜ r ≡ hasFault prices refusal right ⌝ }
+// Whether the record of these words has the fault that a refusal stands for: 7 or 8.
+fn has_fault(words: Words, prices: usize, refusal: u8) -> bool
+    ensures { λ r. ⌜ r ≡ hasFault prices refusal (rightOf (words .low) (words .high)) ⌝ }
 {
     if refusal == 7 {
-        return !is_good(right);
+        return !is_good(words);
     }
     if refusal == 8 {
-        return is_unpriced(right, prices);
+        return is_unpriced(cut(words), prices);
     }
     false
 }
 
-// The eight fields of the record that starts at a place, cut from its two words.
-fn decode(file: &[u8], at: usize) -> Right
+// The two words of the record that starts at a place; the fields cut from them are the layout's.
+fn words_at(file: &[u8], at: usize) -> Words
     requires { ⌜ at + 16 ≤ length (now file) ⌝ }
-    ensures { λ r. ⌜ r ≡ rightFrom (now (file .entry)) at ⌝ }
+    ensures { λ r. ⌜ (r .low ≡ lowWord (now (file .entry)) at) × (r .high ≡ highWord (now (file .entry)) at) ⌝ }
+    ensures { λ r. ⌜ rightOf (r .low) (r .high) ≡ rightFrom (now (file .entry)) at ⌝ }
 {
     let low = word_at(file, at);
     let high = word_at(file, at + 8);
-    cut(low, high)
+    Words { low, high }
 }
 
 // The word of the eight bytes from a place on.
@@ -233,10 +253,12 @@ fn word_at(file: &[u8], at: usize) -> u64
     ])
 }
 
-// Each field stands in its own bytes of the low or the high word.
-fn cut(low: u64, high: u64) -> Right
-    ensures { λ r. ⌜ r ≡ rightOf low high ⌝ }
+// The eight fields, each from its own bytes of the low or the high word.
+fn cut(words: Words) -> Right
+    ensures { λ r. ⌜ r ≡ rightOf (words .low) (words .high) ⌝ }
 {
+    let low = words.low;
+    let high = words.high;
     Right {
         owner: (low % BYTES_2) as u16,
         source: (low / BYTES_2 % BYTES_2) as u16,

@@ -16,7 +16,7 @@ use Rattle.rights.specs.Faults.{faultAt, hasFault}
 use Rattle.rights.proofs.first_fault.Statement.{statement}
 use Rattle.rights.proofs.first_fault.Tie as tie
 
--- what has_fault says of a decoded record is what the definition says of the file's
+-- what has_fault says of a record's words is what the definition says of the file's record
 fault-is : (prices refusal number : ℕ) (file : List ℕ) (right : Right) (found : Bool) → right ≡ rightAt file number
     → found ≡ hasFault prices refusal right → faultAt prices file refusal number ≡ found
 unfolding faultAt
@@ -32,11 +32,11 @@ abbrev μ-loop : tie.MeasureT-loop
 loop-holds : tie.Need-loop-holds Inv-loop μ-loop
 loop-holds c = (search needs, any-none _)
 
-mul-decode : tie.Need-mul-decode Inv-loop μ-loop
-mul-decode c = omega arith
+mul-words-at : tie.Need-mul-words-at Inv-loop μ-loop
+mul-words-at c = omega arith
 
-decode-requires : tie.Need-decode-requires Inv-loop μ-loop
-decode-requires c κs = search needs
+words-at-requires : tie.Need-words-at-requires Inv-loop μ-loop
+words-at-requires c κs = search needs
 
 has-fault-requires : tie.Need-has-fault-requires Inv-loop μ-loop
 has-fault-requires c κs = search needs
@@ -46,7 +46,7 @@ returns c =
     lowest-only _ _ _
     (record {
       inside = search needs;
-      here = fault-is _ _ _ _ _ _ (c .before .before .decode .ensures) (c .before .has-fault .ensures) ∙ c .if1 .taken;
+      here = fault-is _ _ _ _ _ _ (c .before .before .words-at .ensures .1) (c .before .has-fault .ensures) ∙ c .if1 .taken;
       before = c .before .before .before .before .loop .inv .1;
     })
 
@@ -60,7 +60,7 @@ loop-again : tie.Need-loop-again Inv-loop μ-loop
 loop-again c = (
   omega arith,
   any-more _ _ (c .before .before .before .before .loop .inv .1)
-      (fault-is _ _ _ _ _ _ (c .before .before .decode .ensures) (c .before .has-fault .ensures) ∙ c .if1 .left),
+      (fault-is _ _ _ _ _ _ (c .before .before .words-at .ensures .1) (c .before .has-fault .ensures) ∙ c .if1 .left),
 )
 
 returns-2 : tie.Need-returns-2 Inv-loop μ-loop
@@ -79,8 +79,8 @@ first-fault-spec =
     Inv-loop
     μ-loop
     loop-holds
-    mul-decode
-    decode-requires
+    mul-words-at
+    words-at-requires
     has-fault-requires
     returns
     add-number

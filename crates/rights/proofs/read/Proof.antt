@@ -26,14 +26,17 @@ unfolding reading readRefusal firstRefusal
 returns-2 c =
     rw (c .refused2 .ensures, sym (c .before .before .before .wrong-length .ensures) ∙ c .before .before .if1 .left, le-leb _ _ (c .before .if2 .taken))
 
-mul-decode : tie.Need-mul-decode
-mul-decode c = search needs
+mul-words-at : tie.Need-mul-words-at
+mul-words-at c = search needs
 
-decode-requires : tie.Need-decode-requires
-decode-requires c κs = search needs
+words-at-requires : tie.Need-words-at-requires
+words-at-requires c κs = search needs
 
 is-good-requires : tie.Need-is-good-requires
 is-good-requires c κs = search needs
+
+cut-requires : tie.Need-cut-requires
+cut-requires c κs = search needs
 
 refused-requires-3 : tie.Need-refused-requires-3
 refused-requires-3 c κs = search needs
@@ -41,14 +44,16 @@ refused-requires-3 c κs = search needs
 returns-3 : tie.Need-returns-3
 unfolding reading readRefusal firstRefusal
 returns-3 c =
+    let given = c .before .before .before in
     rw
-    (c .before .before .decode .ensures, sym (c .before .before .before .before .before .wrong-length .ensures) ∙ c .before .before .before .before .if1 .left, lt-leb _ _ (c .before .before .before .if2 .left), ap isGood (sym (c .before .before .decode .ensures)) ∙ sym (c .before .is-good .ensures) ∙ c .if3 .taken)
+    (c .cut .ensures ∙ given .words-at .ensures .1, sym (given .before .before .before .wrong-length .ensures) ∙ given .before .before .if1 .left, lt-leb _ _ (given .before .if2 .left), ap isGood (sym (given .words-at .ensures .1)) ∙ sym (c .before .before .is-good .ensures) ∙ c .before .if3 .taken)
 
 returns-4 : tie.Need-returns-4
 unfolding reading readRefusal firstRefusal
 returns-4 c =
+    let given = c .before .before .before in
     rw
-    (c .refused3 .ensures, sym (c .before .before .before .before .before .before .wrong-length .ensures) ∙ c .before .before .before .before .before .if1 .left, lt-leb _ _ (c .before .before .before .before .if2 .left), ap isGood (sym (c .before .before .before .decode .ensures)) ∙ sym (c .before .before .is-good .ensures) ∙ c .before .if3 .left)
+    (c .refused3 .ensures, sym (given .before .before .before .wrong-length .ensures) ∙ given .before .before .if1 .left, lt-leb _ _ (given .before .if2 .left), ap isGood (sym (given .words-at .ensures .1)) ∙ sym (c .before .before .is-good .ensures) ∙ c .before .if3 .left)
 
 pub read-spec : {M : Type 1} → statement M
 read-spec =
@@ -59,9 +64,10 @@ read-spec =
     returns
     refused-requires-2
     returns-2
-    mul-decode
-    decode-requires
+    mul-words-at
+    words-at-requires
     is-good-requires
+    cut-requires
     refused-requires-3
     returns-3
     returns-4)
