@@ -272,7 +272,7 @@ pub fn calendar(hour: u64, report: &mut [u64]) -> u64 {
     })
 }
 
-fn right_words(right: &Right) -> [u64; RIGHT] {
+pub fn right_words(right: &Right) -> [u64; RIGHT] {
     [
         right.owner,
         right.source,

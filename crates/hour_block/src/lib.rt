@@ -40,7 +40,7 @@ fn write_prices(block: &[u8], prices: &mut [i32])
 {
     let mut node = 0;
     while node < numbers::NODES {
-        prices[node] = signed32(word_at(block, 8 + node * 4));
+        prices[node] = signed32(word32_at(block, 8 + node * 4));
         node += 1;
     }
 }
@@ -63,7 +63,7 @@ fn amount_of(block: &[u8]) -> i64
 }
 
 // The word of the four bytes from a place on.
-fn word_at(block: &[u8], at: usize) -> u32
+fn word32_at(block: &[u8], at: usize) -> u32
     requires { ⌜ at + 4 ≤ length (now block) ⌝ }
     ensures { λ r. ⌜ r ≡ word 4 (now (block .entry)) at ⌝ }
 {

@@ -21,20 +21,20 @@ pow-pos : (n : ℕ) → 0 < 256 ^ n
 pow-pos n = one-le-pow n 256 (zero-lt-suc 255)
 
 -- bytes that agree make one word
-pub word-ext : (xs ys : List ℕ) (a b n : ℕ) → ((i : ℕ) → i < n → getD xs (a + i) 0 ≡ getD ys (b + i) 0) → word n xs a ≡ word n ys b
+word-ext : (xs ys : List ℕ) (a b n : ℕ) → ((i : ℕ) → i < n → getD xs (a + i) 0 ≡ getD ys (b + i) 0) → word n xs a ≡ word n ys b
 word-ext xs ys a b zero agree = refl
 word-ext xs ys a b (suc n) agree =
     ap₂ (λ (low byte : ℕ). low + byte * 256 ^ n) (word-ext xs ys a b n (λ i l. agree i (omega arith))) (agree n (omega arith))
 
 -- m bytes, and n bytes above them
-pub word-join : (bytes : List ℕ) (at m n : ℕ) → word (m + n) bytes at ≡ word n bytes (at + m) * 256 ^ m + word m bytes at
+word-join : (bytes : List ℕ) (at m n : ℕ) → word (m + n) bytes at ≡ word n bytes (at + m) * 256 ^ m + word m bytes at
 word-join bytes at m zero = rw (add-zero m) (omega arith)
 word-join bytes at m (suc n) =
     rw (add-suc m n, word-join bytes at m n, add-assoc at m n, pow-add 256 m n, add-mul (word n bytes (at + m)) (getD bytes (at + (m + n)) 0 * 256 ^ n) (256 ^ m), mul-assoc (getD bytes (at + (m + n)) 0) (256 ^ n) (256 ^ m), mul-comm (256 ^ n) (256 ^ m)) (omega arith)
 
 module _ (bytes : List ℕ) (are : AreBytes bytes) where
   -- a word of n bytes is below 256 ^ n
-  pub word-most : (n at : ℕ) → word n bytes at < 256 ^ n
+  word-most : (n at : ℕ) → word n bytes at < 256 ^ n
   word-most zero at = rw (pow-zero 256) (omega arith)
   word-most (suc n) at =
       rw (pow-suc 256 n, mul-comm (256 ^ n) 256) (omega (arith, digits-lt (are (at + n)) (word-most n at)))
@@ -49,7 +49,7 @@ module _ (bytes : List ℕ) (are : AreBytes bytes) where
       ∙ ap (word n bytes) e
 
 -- the word of some bytes of a number is that part of it
-pub bytes-part : (count number from n : ℕ) → from + n ≤ count → word n (bytesOf count number) from ≡ partOf n number from
+bytes-part : (count number from n : ℕ) → from + n ≤ count → word n (bytesOf count number) from ≡ partOf n number from
 unfolding bytesOf
 bytes-part count number from zero inside = sym (ap (λ (p : ℕ). number / 256 ^ from % p) (pow-zero 256) ∙ mod-one (number / 256 ^ from))
 bytes-part count number from (suc n) inside =

@@ -1,4 +1,4 @@
-// What several crates share: limits, sums that cannot wrap, the two parts of a signed amount; and in specs/ and proofs/ the
+// What several crates share: limits, sums that cannot wrap, the two parts of a signed amount, words of bytes; and in specs/ and proofs/ the
 // definitions and laws that they cite.
 
 mod signs;

@@ -12,7 +12,6 @@ pub fn word32(bytes: [u8; 4]) -> u32
         + wide32(bytes[3]) * 16777216
 }
 
-// The compiler makes one load of the eight bytes.
 pub fn word64(bytes: [u8; 8]) -> u64
     ensures { λ r. ⌜ r ≡ word 8 bytes 0 ⌝ }
 {

@@ -1,14 +1,12 @@
 // The rights file: 16-byte records, read by number, and the faults of a whole file.
 ghost use mathlib.Core.Path.{_≡_};
-ghost use mathlib.Core.Bool.{cond, _&&_};
-ghost use Prim.Native.Nat.{_+_, _*_, _<_, _≤_};
-ghost use lib.Dec.{leb, ltb};
+ghost use Prim.Native.Nat.{_+_, _≤_};
 ghost use lib.ListN.{length};
-ghost use Rattle.numbers.specs.Limits.{nodes, owners};
 ghost use Rattle.numbers.specs.Lists.{lowestBelow};
-ghost use Rattle.numbers.specs.Words.{partOf, word};
+ghost use Rattle.numbers.specs.Words.{word};
 ghost use Rattle.rights.specs.Layout.{isGood, isLive, isWrongLength, reading, recordCount, refusedReading, rightFrom};
 ghost use Rattle.rights.specs.RecordWords.{highWord, lowWord, rightOf};
+ghost use Rattle.rights.specs.InnerContracts.{isWithinLimits, otherClass};
 ghost use Rattle.rights.specs.Faults.{faultAt, faultyRecord, fileRefusal, hasFault, isUnpriced};
 use calendar::OperatingHour;
 
@@ -24,12 +22,12 @@ pub use reader::take_next;
 
 pub const RECORD_BYTES: usize = 16;
 
-pub const FILE_BYTES: usize = 65536;
+pub const FILE_BYTES: usize = 65_536;
 
 // The largest size of a right, in tenths of a megawatt.
 const MOST_SIZE: u32 = 100000;
 
-// The powers of 256: a word divided by one is without so many low bytes, and the remainder is what these hold.
+// Powers of 256. A word divided by such a power is without so many low bytes, and the remainder is what these hold.
 const BYTES_1: u64 = 256;
 
 const BYTES_2: u64 = 65_536;
@@ -115,12 +113,12 @@ pub fn wrong_length(bytes: usize) -> bool
     (bytes % RECORD_BYTES != 0) | (FILE_BYTES < bytes)
 }
 
-// Whether each field has a good value.
+// Whether each field of the record of these words has a good value.
 fn is_good(words: Words) -> bool
     ensures { λ r. ⌜ r ≡ isGood (rightOf (words .low) (words .high)) ⌝ }
 {
     let right = cut(words);
-    within_limits(words.low)
+    within_limits(words)
         & (right.sink != right.source)
         & (right.class <= 2)
         & ((1 <= right.size) & (right.size <= MOST_SIZE))
@@ -131,9 +129,10 @@ fn is_good(words: Words) -> bool
 
 // Whether owner, source, sink and kind are within their limits. Asked of the word, and not of the fields cut from it, it is one test for
 // the compiler: that the bits above the limits are 0.
-fn within_limits(low: u64) -> bool
-    ensures { λ r. ⌜ r ≡ (ltb (partOf 2 low 0) owners && ltb (partOf 2 low 2) nodes && ltb (partOf 2 low 4) nodes && leb (partOf 1 low 6) 1) ⌝ }
+fn within_limits(words: Words) -> bool
+    ensures { λ r. ⌜ r ≡ isWithinLimits (rightOf (words .low) (words .high)) ⌝ }
 {
+    let low = words.low;
     (low % BYTES_2 < numbers::OWNERS as u64)
         & (low / BYTES_2 % BYTES_2 < numbers::NODES as u64)
         & (low / BYTES_4 % BYTES_2 < numbers::NODES as u64)
@@ -157,9 +156,9 @@ pub fn is_live(right: Right, hour: OperatingHour) -> bool
         & (hour.day <= right.last)
 }
 
-// The class of the hours that are not of this kind: 1 off-peak in a peak hour, 0 peak in the others.
+// The class that does not fit: 1 off-peak in a peak hour, 0 peak in an off-peak one.
 fn other_class(peak: bool) -> u8
-    ensures { λ r. ⌜ r ≡ cond peak 1 0 ⌝ }
+    ensures { λ r. ⌜ r ≡ otherClass peak ⌝ }
 {
     if peak { 1 } else { 0 }
 }
@@ -225,19 +224,20 @@ fn has_fault(words: Words, prices: usize, refusal: u8) -> bool
     false
 }
 
-// The two words of the record that starts at a place; the fields cut from them are the layout's.
+// The two words of the record that starts at a place; the fields cut from them are the layout's. A function of its own, so that the
+// compiler has made one load of each word's bytes before it looks at the tests.
 fn words_at(file: &[u8], at: usize) -> Words
     requires { ⌜ at + 16 ≤ length (now file) ⌝ }
     ensures { λ r. ⌜ (r .low ≡ lowWord (now (file .entry)) at) × (r .high ≡ highWord (now (file .entry)) at) ⌝ }
     ensures { λ r. ⌜ rightOf (r .low) (r .high) ≡ rightFrom (now (file .entry)) at ⌝ }
 {
-    let low = word_at(file, at);
-    let high = word_at(file, at + 8);
+    let low = word64_at(file, at);
+    let high = word64_at(file, at + 8);
     Words { low, high }
 }
 
 // The word of the eight bytes from a place on.
-fn word_at(file: &[u8], at: usize) -> u64
+fn word64_at(file: &[u8], at: usize) -> u64
     requires { ⌜ at + 8 ≤ length (now file) ⌝ }
     ensures { λ r. ⌜ r ≡ word 8 (now (file .entry)) at ⌝ }
 {

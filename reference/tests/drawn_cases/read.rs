@@ -2,7 +2,7 @@
 
 use reference::draws::Draws;
 use reference::record_words::{cut, words as words_of};
-use reference::rights::{decode, encode, Right, RECORD};
+use reference::rights::{encode, Right, RECORD};
 use reference::words;
 
 use crate::compare::{Case, Input, Kind};
@@ -96,8 +96,8 @@ fn draw_good(draws: &mut Draws) -> [u8; RECORD] {
     })
 }
 
-/// A good record, and each of its bytes in turn as each of the 256 values: every
-/// bit of every field is cut from its own place of the two words.
+/// A good record, and each of its bytes in turn as each of the 256 values. A
+/// record that is read has the fields that its two words give.
 #[test]
 fn each_byte_of_a_record() {
     let kind = Kind {
@@ -116,9 +116,12 @@ fn each_byte_of_a_record() {
             for value in 0..=255 {
                 let mut record = good;
                 record[place] = value;
-                assert_eq!(cut(words_of(&record)), decode(&record));
                 let rights = Row::lent(&record, RECORD, || value);
-                compare_read(case, &Place { rights, record: 0 }, &lent);
+                let given = compare_read(case, &Place { rights, record: 0 }, &lent);
+                if given.refusal == 0 {
+                    let fields = words::right_words(&cut(words_of(&record)));
+                    assert_eq!(given.lent.report.slice(), fields);
+                }
             }
         }
     });

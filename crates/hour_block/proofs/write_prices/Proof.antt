@@ -24,14 +24,14 @@ loop-holds : tie.Need-loop-holds Inv-loop μ-loop
 unfolding listBelow
 loop-holds c = (omega arith, c .before .pre .1, refl)
 
-mul-word-at : tie.Need-mul-word-at Inv-loop μ-loop
-mul-word-at c = search needs
+mul-word32-at : tie.Need-mul-word32-at Inv-loop μ-loop
+mul-word32-at c = search needs
 
-add-word-at : tie.Need-add-word-at Inv-loop μ-loop
-add-word-at c = search needs
+add-word32-at : tie.Need-add-word32-at Inv-loop μ-loop
+add-word32-at c = search needs
 
-word-at-requires : tie.Need-word-at-requires Inv-loop μ-loop
-word-at-requires c κs = search needs
+word32-at-requires : tie.Need-word32-at-requires Inv-loop μ-loop
+word32-at-requires c κs = search needs
 
 signed32-requires : tie.Need-signed32-requires Inv-loop μ-loop
 signed32-requires c κs = search needs
@@ -54,7 +54,7 @@ loop-again c = (
   omega arith,
   simp length-set (c .before .before .before .loop .inv .1),
   filled-more (priceIn (c .before .before .before .before .before .args .block .now)) _ _ _ (omega arith)
-      (toZ-ofZ w32 _ (record { sfits = c .signed32 .ok }) ∙ c .signed32 .ensures ∙ ap (signed 32) (c .before .word-at .ensures))
+      (toZ-ofZ w32 _ (record { sfits = c .signed32 .ok }) ∙ c .signed32 .ensures ∙ ap (signed 32) (c .before .word32-at .ensures))
       (c .before .before .before .loop .inv .2),
 )
 
@@ -72,9 +72,9 @@ write-prices-spec =
     Inv-loop
     μ-loop
     loop-holds
-    mul-word-at
-    add-word-at
-    word-at-requires
+    mul-word32-at
+    add-word32-at
+    word32-at-requires
     signed32-requires
     mul-t9
     slice-set-from-prices

@@ -1,4 +1,4 @@
--- `rights::is_good` meets its contract: the tests are the definition's, those of the owner, the nodes and the kind asked together.
+-- `rights::is_good` meets its contract: the tests are the definition's, the limits of owner, nodes and kind asked together.
 -- Assumes nothing.
 use mathlib.Core.Path.{_≡_, refl, ap}
 use mathlib.Core.Bool.{Bool, true, false, not, _&&_}

@@ -2,11 +2,12 @@
 -- Assumes nothing.
 use Prim.Native.Nat.{ℕ, zero, suc, _<_}
 use mathlib.Core.Path.{_≡_, refl, _∙_}
-use mathlib.Core.Bool.{Bool, true, false, cond, not, _&&_, and-assoc, and-comm}
+use mathlib.Core.Bool.{Bool, true, false, not, _&&_, and-assoc, and-comm}
 use native.Mathlib.Omega.{arith}
 use lib.Dec.{leb, eqb}
 use borrow.Author.Tests.{ne-eqb, lt-leb}
 use borrow.Author.Needs.{needs}
+use Rattle.rights.specs.InnerContracts.{otherClass}
 use Rattle.rights.specs.Layout.{classFits}
 use Rattle.rights.proofs.is_live.Statement.{statement}
 use Rattle.rights.proofs.is_live.Tie as tie
@@ -15,7 +16,7 @@ other : (n k : ℕ) → k < 3 → eqb (suc (suc (suc n))) k ≡ false
 other n k small = ne-eqb (suc (suc (suc n))) k (λ e. omega arith)
 
 -- the code's two tests of the class are the definition's: for 0, 1, 2 and every number above
-class-tests : (class : ℕ) (peak : Bool) → (not (eqb class (cond peak 1 0)) && leb class 2) ≡ classFits class peak
+class-tests : (class : ℕ) (peak : Bool) → (not (eqb class (otherClass peak)) && leb class 2) ≡ classFits class peak
 class-tests zero true = refl
 class-tests zero false = refl
 class-tests (suc zero) true = refl

@@ -28,6 +28,10 @@ Inv-loop rights prices hour sums₀ records number₀ sums number = Passed right
 abbrev μ-loop : tie.MeasureT-loop
 μ-loop rights prices hour sums₀ records number₀ sums number = recordCount rights - number
 
+-- with so many prices it is not asked whether a right is unpriced
+abbrev enough : ℕ
+enough = nodes
+
 -- a record that the read accepted: where the pass stands, and what is lent
 module _ (c : tie.Else1 Inv-loop μ-loop) where
   abbrev file : List ℕ
@@ -59,13 +63,13 @@ module _ (c : tie.Else1 Inv-loop μ-loop) where
       ap isGood right-is
       ∙ accepted-good file number (c .before .before .before .before .before .before .pre .0) (c .before .before .before .loop-test .taken) read-accepted
 
-  -- where there are as many prices as nodes it need not be asked whether the right is unpriced
-  asked : (ltb (length prices) nodes && isUnpriced (length prices) right) ≡ isUnpriced (length prices) right
-  asked = by-test (ltb (length prices) nodes) refl
+  -- where it is not asked, it is not so
+  asked : (ltb (length prices) enough && isUnpriced (length prices) right) ≡ isUnpriced (length prices) right
+  asked = by-test (ltb (length prices) enough) refl
     where
-      by-test : (fewer : Bool) → ltb (length prices) nodes ≡ fewer → (fewer && isUnpriced (length prices) right) ≡ isUnpriced (length prices) right
+      by-test : (fewer : Bool) → ltb (length prices) enough ≡ fewer → (fewer && isUnpriced (length prices) right) ≡ isUnpriced (length prices) right
       by-test true e = refl
-      by-test false e = sym (good-priced right right-good (length prices) (ltb-false (length prices) nodes e))
+      by-test false e = sym (good-priced right right-good (length prices) (ltb-false (length prices) enough e))
 
   sum-small : natAbs (getD sums (right .owner) (pos 0)) ≤ number * mostWorth
   sum-small =
@@ -74,8 +78,8 @@ module _ (c : tie.Else1 Inv-loop μ-loop) where
 
 -- what the test gives is whether the right is unpriced
 unpriced-is : (c : tie.After-is-unpriced Inv-loop μ-loop)
-    → (ltb (length (prices (c .before .before))) nodes && c .is-unpriced .result) ≡ isUnpriced (length (prices (c .before .before))) (right (c .before .before))
-unpriced-is c = ap (λ (b : Bool). ltb (length (prices (c .before .before))) nodes && b) (c .is-unpriced .ensures) ∙ asked (c .before .before)
+    → (ltb (length (prices (c .before .before))) enough && c .is-unpriced .result) ≡ isUnpriced (length (prices (c .before .before))) (right (c .before .before))
+unpriced-is c = ap (λ (b : Bool). ltb (length (prices (c .before .before))) enough && b) (c .is-unpriced .ensures) ∙ asked (c .before .before)
 
 loop-holds : tie.Need-loop-holds Inv-loop μ-loop
 loop-holds c = begins _ _ _ _ (c .before .pre .2)

@@ -1,10 +1,10 @@
--- `rights::word_at` meets its contract: these eight bytes make the word of the place.
+-- `rights::word64_at` meets its contract: these eight bytes make the word of the place.
 -- Assumes nothing.
 use native.Mathlib.Nat.{add-zero}
 use native.Mathlib.Omega.{arith}
 use borrow.Author.Needs.{needs}
-use Rattle.rights.proofs.word_at.Statement.{statement}
-use Rattle.rights.proofs.word_at.Tie as tie
+use Rattle.rights.proofs.word64_at.Statement.{statement}
+use Rattle.rights.proofs.word64_at.Tie as tie
 
 shared-slice-read-t4 : tie.Need-shared-slice-read-t4
 shared-slice-read-t4 c = search needs
@@ -57,8 +57,8 @@ word64-requires c κs = search needs
 returns : tie.Need-returns
 returns c = simp add-zero (omega (arith, c .word64 .ensures))
 
-pub word-at-spec : {M : Type 1} → statement M
-word-at-spec =
+pub word64-at-spec : {M : Type 1} → statement M
+word64-at-spec =
     tie.close
     (tie.spec
     shared-slice-read-t4

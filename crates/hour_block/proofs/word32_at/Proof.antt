@@ -1,10 +1,10 @@
--- `hour_block::word_at` meets its contract: these four bytes make the word of the place.
+-- `hour_block::word32_at` meets its contract: these four bytes make the word of the place.
 -- Assumes nothing.
 use native.Mathlib.Nat.{add-zero}
 use native.Mathlib.Omega.{arith}
 use borrow.Author.Needs.{needs}
-use Rattle.hour_block.proofs.word_at.Statement.{statement}
-use Rattle.hour_block.proofs.word_at.Tie as tie
+use Rattle.hour_block.proofs.word32_at.Statement.{statement}
+use Rattle.hour_block.proofs.word32_at.Tie as tie
 
 shared-slice-read-t4 : tie.Need-shared-slice-read-t4
 shared-slice-read-t4 c = search needs
@@ -33,8 +33,8 @@ word32-requires c κs = search needs
 returns : tie.Need-returns
 returns c = simp add-zero (omega (arith, c .word32 .ensures))
 
-pub word-at-spec : {M : Type 1} → statement M
-word-at-spec =
+pub word32-at-spec : {M : Type 1} → statement M
+word32-at-spec =
     tie.close
     (tie.spec
     shared-slice-read-t4

@@ -29,7 +29,7 @@ cut-as-laid-out file at are =
 
 module _ (right : Right) (in-widths : InWidths right) where
   -- the fields cut from the words that they made
-  pub cut-as-made : rightOf (lowOf right) (highOf right) ≡ right
+  cut-as-made : rightOf (lowOf right) (highOf right) ≡ right
   cut-as-made =
       λ i.
       record {
