@@ -33,39 +33,15 @@ module _ (right : Right) (in-widths : InWidths right) where
   cut-as-made =
       λ i.
       record {
-        owner = owner-back i;
-        source = source-back i;
-        sink = sink-back i;
-        kind = kind-back i;
-        class = class-back i;
-        size = size-back i;
-        first = first-back i;
-        last = last-back i;
+        owner = let back : partOf 2 (lowOf right) 0 ≡ right .owner = omega arith in back i;
+        source = let back : partOf 2 (lowOf right) 2 ≡ right .source = omega arith in back i;
+        sink = let back : partOf 2 (lowOf right) 4 ≡ right .sink = omega arith in back i;
+        kind = let back : partOf 1 (lowOf right) 6 ≡ right .kind = omega arith in back i;
+        class = let back : partOf 1 (lowOf right) 7 ≡ right .class = omega arith in back i;
+        size = let back : partOf 4 (highOf right) 0 ≡ right .size = omega arith in back i;
+        first = let back : partOf 2 (highOf right) 4 ≡ right .first = omega arith in back i;
+        last = let back : partOf 2 (highOf right) 6 ≡ right .last = omega arith in back i;
       }
-    where
-      owner-back : partOf 2 (lowOf right) 0 ≡ right .owner
-      owner-back = omega arith
-
-      source-back : partOf 2 (lowOf right) 2 ≡ right .source
-      source-back = omega arith
-
-      sink-back : partOf 2 (lowOf right) 4 ≡ right .sink
-      sink-back = omega arith
-
-      kind-back : partOf 1 (lowOf right) 6 ≡ right .kind
-      kind-back = omega arith
-
-      class-back : partOf 1 (lowOf right) 7 ≡ right .class
-      class-back = omega arith
-
-      size-back : partOf 4 (highOf right) 0 ≡ right .size
-      size-back = omega arith
-
-      first-back : partOf 2 (highOf right) 4 ≡ right .first
-      first-back = omega arith
-
-      last-back : partOf 2 (highOf right) 6 ≡ right .last
-      last-back = omega arith
 
   low-small : lowOf right < 256 ^ 8
   low-small = omega arith
