@@ -10,7 +10,7 @@ use Rattle.numbers.specs.Words.{bytesOf, partOf}
 use Rattle.numbers.proofs.WordLaws.{append-bytes, are-bytes, bytes-length, bytes-whole, word-before, word-behind, word-bytes, word-part}
 use Rattle.rights.specs.declared.Right.{Right}
 use Rattle.rights.specs.Layout.{rightFrom}
-use Rattle.rights.specs.RecordWords.{CutAsLaidOut, InWidths, LaidOutAsGiven, LaidOutAsRead, highOf, highWord, lowOf, lowWord, recordOf, rightOf}
+use Rattle.rights.specs.RecordWords.{CutAsLaidOut, InWidths, LaidOutAsGiven, LaidOutAsRead, highOf, highWord, laidOut, lowOf, lowWord, rightOf}
 
 -- each field is the part of a word that its own bytes make
 pub cut-as-laid-out : CutAsLaidOut
@@ -51,7 +51,7 @@ module _ (right : Right) (in-widths : InWidths right) where
 
 -- the words of the bytes are those that the fields made, so that the layout's fields are the fields cut from these
 pub laid-out-as-given : LaidOutAsGiven
-unfolding recordOf
+unfolding laidOut
 laid-out-as-given right in-widths =
     sym (cut-as-laid-out (low ++ high) 0 (append-bytes low high (are-bytes 8 (lowOf right)) (are-bytes 8 (highOf right))))
     ∙ ap₂ rightOf
@@ -74,7 +74,7 @@ high-of file at = simp (add-zero, add-assoc) (omega arith)
 
 -- so that their bytes are the record's
 pub laid-out-as-read : LaidOutAsRead
-unfolding recordOf listBelow
+unfolding laidOut listBelow
 laid-out-as-read file at are =
     ap₂ (λ (low high : List ℕ). low ++ high)
     (ap (bytesOf 8) (low-of file at) ∙ word-bytes file are at 8)

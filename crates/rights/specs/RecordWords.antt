@@ -43,8 +43,8 @@ abbrev pub highOf : Right → ℕ
 highOf right = right .size + right .first * 256 ^ 4 + right .last * 256 ^ 6
 
 -- and the 16 bytes of these
-unfoldable pub recordOf : Right → List ℕ
-recordOf right = bytesOf 8 (lowOf right) ++ bytesOf 8 (highOf right)
+unfoldable pub laidOut : Right → List ℕ
+laidOut right = bytesOf 8 (lowOf right) ++ bytesOf 8 (highOf right)
 
 -- the eight fields in their widths: 16, 8 or 32 bits
 pub record InWidths (right : Right) : Type 0 where
@@ -59,8 +59,8 @@ pub record InWidths (right : Right) : Type 0 where
 
 -- those bytes give the fields back
 abbrev pub LaidOutAsGiven : Type 0
-LaidOutAsGiven = (right : Right) → InWidths right → rightFrom (recordOf right) 0 ≡ right
+LaidOutAsGiven = (right : Right) → InWidths right → rightFrom (laidOut right) 0 ≡ right
 
 -- and any 16 bytes, good or bad, are those that their own fields make
 abbrev pub LaidOutAsRead : Type 0
-LaidOutAsRead = (file : List ℕ) (at : ℕ) → AreBytes file → recordOf (rightFrom file at) ≡ listBelow (λ i. getD file (at + i) 0) 16
+LaidOutAsRead = (file : List ℕ) (at : ℕ) → AreBytes file → laidOut (rightFrom file at) ≡ listBelow (λ i. getD file (at + i) 0) 16
