@@ -56,24 +56,24 @@ module _ (call : Call) (words : BookWords) (report lent : List ℤ) where
   -- ---- the event of the book
 
   module _ (result : Settled) (lines_after : List ℤ) (answered : Answered call book lent result lines_after) where
-    abbrev number_of_lem : ℕ
-    number_of_lem = refusal call book (length lent)
+    abbrev own_number : ℕ
+    own_number = refusal call book (length lent)
 
-    fund_fits : (accepted : Dec (number_of_lem ≡ 0)) → result.fund < 2 ^ 63
+    fund_fits : (accepted : Dec (own_number ≡ 0)) → result.fund < 2 ^ 63
     fund_fits (yes z) =
-        omega (arith, (small_amounts call book (length lent) z).fund_most, gives_fund answered ∙ answer_accepted number_of_lem (fund call book) 0 z)
-    fund_fits (no some) = omega (arith, gives_fund answered ∙ answer_refused number_of_lem (fund call book) 0 some)
+        omega (arith, (small_amounts call book (length lent) z).fund_most, gives_fund answered ∙ answer_accepted own_number (fund call book) 0 z)
+    fund_fits (no some) = omega (arith, gives_fund answered ∙ answer_refused own_number (fund call book) 0 some)
 
-    demand_fits : (accepted : Dec (number_of_lem ≡ 0)) → result.demand < 2 ^ 63
+    demand_fits : (accepted : Dec (own_number ≡ 0)) → result.demand < 2 ^ 63
     demand_fits (yes z) =
         omega
-        (arith, (small_amounts call book (length lent) z).demand_most, gives_demand answered ∙ answer_accepted number_of_lem (demand call book) 0 z)
-    demand_fits (no some) = omega (arith, gives_demand answered ∙ answer_refused number_of_lem (demand call book) 0 some)
+        (arith, (small_amounts call book (length lent) z).demand_most, gives_demand answered ∙ answer_accepted own_number (demand call book) 0 z)
+    demand_fits (no some) = omega (arith, gives_demand answered ∙ answer_refused own_number (demand call book) 0 some)
 
-    book_after_lem : number_of_lem ≡ 0 → result.book ≡ book_after call book
-    book_after_lem z = gives_book_lem answered ∙ answer_accepted number_of_lem (book_after call book) book z
+    book_after_lem : own_number ≡ 0 → result.book ≡ book_after call book
+    book_after_lem z = gives_book_lem answered ∙ answer_accepted own_number (book_after call book) book z
 
-    surpluses_fit : number_of_lem ≡ 0 → SurplusesFit result.book
+    surpluses_fit : own_number ≡ 0 → SurplusesFit result.book
     surpluses_fit z =
         let small = (small_amounts call book (length lent) z).surplus_most in
         subst (λ (b : Book). SurplusesFit b) (sym (book_after_lem z)) (record { month = omega (arith, small); year = omega (arith, small) })
@@ -81,9 +81,9 @@ module _ (call : Call) (words : BookWords) (report lent : List ℤ) where
     pub result_fits : records call < 2 ^ 63 → ResultFits result
     result_fits few =
         record {
-          named = omega (arith, gives_record answered, record_within call number_of_lem);
-          paid_from = fund_fits (ℕ_discrete number_of_lem 0);
-          wanted = demand_fits (ℕ_discrete number_of_lem 0);
+          named = omega (arith, gives_record answered, record_within call own_number);
+          paid_from = fund_fits (ℕ_discrete own_number 0);
+          wanted = demand_fits (ℕ_discrete own_number 0);
           kept = λ z. surpluses_fit (sym (gives_number answered) ∙ z);
         }
 
@@ -94,7 +94,7 @@ module _ (call : Call) (words : BookWords) (report lent : List ℤ) where
     unfolding event_refusal
     settled_event number words_after report_after clear is written kept =
         record {
-          number = same ∙ sym (answer_accepted own number_of_lem own clear);
+          number = same ∙ sym (answer_accepted own own_number own clear);
           reports =
               written
               ∙ (λ i. settled_report ((gives_record answered ∙ ap (record_of call) (sym same)) i) ((gives_fund answered ∙ by_number (fund call book) 0) i) ((gives_demand answered ∙ by_number (demand call book) 0) i))
@@ -103,10 +103,10 @@ module _ (call : Call) (words : BookWords) (report lent : List ℤ) where
           writes_lines = answered.writes ∙ by_number (lines call book) lent;
         }
       where
-        same : number ≡ number_of_lem
+        same : number ≡ own_number
         same = is ∙ gives_number answered
 
-        by_number : {A : Type 0} (accepted refused : A) → answer_by number_of_lem accepted refused ≡ answer_by number accepted refused
+        by_number : {A : Type 0} (accepted refused : A) → answer_by own_number accepted refused ≡ answer_by number accepted refused
         by_number accepted refused = ap (λ (n : ℕ). answer_by n accepted refused) (sym same)
 
         words_of_lem : Dec (number ≡ 0) → answer_by number (words_of result.book) words ≡ answer_by number (words_of (book_after call book)) words

@@ -18,8 +18,8 @@ use Rattle.rights.specs.Layout.{record_count, right_at, is_good, is_wrong_length
 use Rattle.rights.specs.Reader.{given_number, given_right, says_none, is_finished, next_after, IsStep}
 use Rattle.rights.proofs.Readings.{read_good, read_bad, refused_bad, records_most}
 
-abbrev number_of_lem : Reading → ℕ
-number_of_lem read = read.refusal
+abbrev number_of : Reading → ℕ
+number_of read = read.refusal
 
 module _ (file : List ℕ) (next : ℕ) where
   -- a step, from whether the reader has finished and what the read by its number gives
@@ -98,17 +98,17 @@ module _ (file : List ℕ) (next : ℕ) where
   has_record other = by_length (is_wrong_length (length file)) refl
     where
       by_number : is_wrong_length (length file) ≡ false → (test : Bool) → leb (record_count file) next ≡ test → HasRecord
-      by_number right true e = absurd (other (ap number_of_lem (read_past right (leb-true _ _ e))))
+      by_number right true e = absurd (other (ap number_of (read_past right (leb-true _ _ e))))
       by_number right false e = record { right = right; inside = leb-false _ _ e }
 
       by_length : (test : Bool) → is_wrong_length (length file) ≡ test → HasRecord
-      by_length true e = absurd (other (ap number_of_lem (read_wrong e)))
+      by_length true e = absurd (other (ap number_of (read_wrong e)))
       by_length false e = by_number e (leb (record_count file) next) refl
 
   -- what `take_at` makes of the read's number
   module _ {read : Reading} (is : read ≡ reading file next) where
     record_of_lem : (number : ℕ) → read.refusal ≡ number → (number ≡ 4 → ⊥) → HasRecord
-    record_of_lem number e other = has_record (λ four. other (sym e ∙ ap number_of_lem is ∙ four))
+    record_of_lem number e other = has_record (λ four. other (sym e ∙ ap number_of is ∙ four))
 
     pub next_below : (number : ℕ) → read.refusal ≡ number → (number ≡ 4 → ⊥) → next < 4096
     next_below number e other =
@@ -124,15 +124,15 @@ module _ (file : List ℕ) (next : ℕ) where
     taken_bad bad =
         let at : HasRecord = record_of_lem 7 bad (λ z. absurd (omega (arith, z))) in
         step_bad at.right at.inside
-        (refused_bad file next at.right at.inside (λ none. absurd (omega (arith, sym bad ∙ ap number_of_lem is ∙ none))))
+        (refused_bad file next at.right at.inside (λ none. absurd (omega (arith, sym bad ∙ ap number_of is ∙ none))))
 
     pub taken_none : is_wrong_length (length file) ≡ false → (read.refusal ≡ 0 → ⊥) → (read.refusal ≡ 7 → ⊥)
         → IsStep file next Finished next
     taken_none right not_good not_bad = by_number (leb (record_count file) next) refl
       where
         by_good : next < record_count file → (test : Bool) → is_good (right_at file next) ≡ test → ⊥
-        by_good inside true e = not_good (ap number_of_lem (is ∙ read_good file next right inside e))
-        by_good inside false e = not_bad (ap number_of_lem (is ∙ read_bad file next right inside e))
+        by_good inside true e = not_good (ap number_of (is ∙ read_good file next right inside e))
+        by_good inside false e = not_bad (ap number_of (is ∙ read_bad file next right inside e))
 
         by_number : (test : Bool) → leb (record_count file) next ≡ test → IsStep file next Finished next
         by_number true e = step_past right (leb-true _ _ e)
