@@ -1,5 +1,5 @@
 -- The last line by the refusal, and all else of the run as it was.
-use Rattle.std.proofs.Common.{ℕ, ◌≡◌, List, length, Bool, sym, ap, ◌∙◌}
+use Rattle.std.proofs.Common.{ℕ, ◌≡◌, List, length, Bool, sym, ap, ◌∙◌, arith}
 use Rattle.numbers.proofs.Refusals.{answer_accepted, answer_refused}
 use Rattle.statement_text.specs.Buffer.{end_after, text_after}
 use Rattle.statement_text.specs.Text.{Line, line_text, line_room}
@@ -41,23 +41,23 @@ written_last run before line is lacks ends buffer = (
 pub returns-then-refusal-ne0-clause-value : goal.returns-then-refusal-ne0-clause-value
 unfolding last_line
 returns-then-refusal-ne0-clause-value c =
-    (written_last c.args.run c.args.text.now _ (sym (answer_refused _ _ _ c.if-refusal-ne0.true)) c.lacks_room.ensures
+    (written_last c.args.run c.args.text.now _ (sym (answer_refused c.args.run.refusal _ _ (λ z. omega arith))) c.lacks_room.ensures
     c.write_refusal.ensures.value c.write_refusal.ensures.text_after).0
 
 pub returns-then-refusal-ne0-clause-text_after : goal.returns-then-refusal-ne0-clause-text_after
 unfolding last_line
 returns-then-refusal-ne0-clause-text_after c =
-    (written_last c.args.run c.args.text.now _ (sym (answer_refused _ _ _ c.if-refusal-ne0.true)) c.lacks_room.ensures
+    (written_last c.args.run c.args.text.now _ (sym (answer_refused c.args.run.refusal _ _ (λ z. omega arith))) c.lacks_room.ensures
     c.write_refusal.ensures.value c.write_refusal.ensures.text_after).1
 
 pub returns-clause-value : goal.returns-clause-value
 unfolding last_line
 returns-clause-value c =
-    (written_last c.args.run c.args.text.now _ (sym (answer_accepted _ _ _ c.if-refusal-ne0.false)) c.lacks_room.ensures
+    (written_last c.args.run c.args.text.now _ (sym (answer_accepted c.args.run.refusal _ _ (omega arith))) c.lacks_room.ensures
     c.write_fund.ensures.value c.write_fund.ensures.text_after).0
 
 pub returns-clause-text_after : goal.returns-clause-text_after
 unfolding last_line
 returns-clause-text_after c =
-    (written_last c.args.run c.args.text.now _ (sym (answer_accepted _ _ _ c.if-refusal-ne0.false)) c.lacks_room.ensures
+    (written_last c.args.run c.args.text.now _ (sym (answer_accepted c.args.run.refusal _ _ (omega arith))) c.lacks_room.ensures
     c.write_fund.ensures.value c.write_fund.ensures.text_after).1

@@ -1,4 +1,5 @@
 -- Nothing without room or once the run has stopped, else the three events one behind another.
+use Rattle.std.proofs.Common.{arith}
 use Rattle.settlement_run.proofs.Stepping.{step_full, step_stopped, step_settled}
 use Rattle.settlement_run.proofs.step.Goals as goal
 
@@ -13,19 +14,19 @@ returns-then-run-clause-text_after c =
 pub returns-then-run-ne0-clause-value : goal.returns-then-run-ne0-clause-value
 returns-then-run-ne0-clause-value c =
     (step_stopped c.args.rights.now c.args.block.now c.args.run c.args.text.now c.lacks_room.result c.lacks_room.ensures c.if-run.false
-    c.if-run-ne0.true).0
+    (λ z. omega arith)).0
 
 pub returns-then-run-ne0-clause-text_after : goal.returns-then-run-ne0-clause-text_after
 returns-then-run-ne0-clause-text_after c =
     (step_stopped c.args.rights.now c.args.block.now c.args.run c.args.text.now c.lacks_room.result c.lacks_room.ensures c.if-run.false
-    c.if-run-ne0.true).1
+    (λ z. omega arith)).1
 
 pub returns-clause-value : goal.returns-clause-value
 returns-clause-value c =
     (step_settled c.args.rights.now c.args.block.now c.args.run c.args.text.now c.lacks_room.result c.lacks_room.ensures c.if-run.false
-    c.if-run-ne0.false c.settle_hour-settled.ensures c.close_if_due-closed.ensures c.close_if_due.ensures).0
+    (omega arith) c.settle_hour-settled.ensures c.close_if_due-closed.ensures c.close_if_due.ensures).0
 
 pub returns-clause-text_after : goal.returns-clause-text_after
 returns-clause-text_after c =
     (step_settled c.args.rights.now c.args.block.now c.args.run c.args.text.now c.lacks_room.result c.lacks_room.ensures c.if-run.false
-    c.if-run-ne0.false c.settle_hour-settled.ensures c.close_if_due-closed.ensures c.close_if_due.ensures).1
+    (omega arith) c.settle_hour-settled.ensures c.close_if_due-closed.ensures c.close_if_due.ensures).1

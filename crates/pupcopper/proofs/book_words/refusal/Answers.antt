@@ -16,14 +16,14 @@ returns-then-report-places c =
 pub returns-then-counts-gt1 : goal.returns-then-counts-gt1
 returns-then-counts-gt1 c =
     wrong_mark _ _ _ (sym c.is_no_book.ensures ∙ c.if-is_no_book.false) (report_fits _ _ c.if-report-places.false)
-    (lt-ltb 1 _ c.if-counts-gt1.true)
+    (lt-ltb 1 _ (omega arith))
 
 pub returns-then-surpluses : goal.returns-then-surpluses
 returns-then-surpluses c =
     overdrawn _ _ _ (sym c.is_no_book.ensures ∙ c.if-is_no_book.false) (report_fits _ _ c.if-report-places.false)
-    (le-ltb 1 _ c.if-counts-gt1.false) (grind (arith, to_z-of_z))
+    (le-ltb 1 _ (omega arith)) (grind (arith, to_z-of_z))
 
 pub returns : goal.returns
 returns c =
     good_words _ _ _ (sym c.is_no_book.ensures ∙ c.if-is_no_book.false) (report_fits _ _ c.if-report-places.false)
-    (le-ltb 1 _ c.if-counts-gt1.false) (grind (arith, to_z-of_z))
+    (le-ltb 1 _ (omega arith)) (grind (arith, to_z-of_z))
