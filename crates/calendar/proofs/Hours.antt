@@ -1,16 +1,21 @@
 -- From the table's entry of a day to the answer for an hour, and how many hours of the year are peak.
 -- Assumes nothing.
-use Prim.Native.Nat.{ℕ, ◌+◌, ◌*◌, ◌/◌, ◌%◌, ◌<◌, ◌≤◌}
-use mathlib.Core.Path.{◌≡◌, refl, sym, ap, ap₂, ◌∙◌}
+use Prim.Native.Nat.{ℕ, zero, suc, ◌+◌, ◌*◌, ◌/◌, ◌%◌, ◌<◌, ◌≤◌}
+use mathlib.Core.Path.{◌≡◌, refl, ap, ap₂, ◌∙◌}
 use mathlib.Core.Bool.{Bool, true, false, cond, not, ◌&&◌}
 use mathlib.Core.List.{List, [], ◌∷◌}
 use native.Mathlib.Nat.{le_refl}
 use native.Mathlib.Omega.{arith}
 use lib.Dec.{leb, eqb}
 use lib.ListN.{length}
+use Rattle.std.specs.Prelude.{Result, Ok, Err}
+use Rattle.std.specs.Result.{result_unwrap_or}
 use borrow.Author.Tests.{leb-true, leb-false, le-leb, lt-leb, eqb-true, eq-eqb, ne_eqb}
 use Rattle.numbers.specs.Lists.{count_below}
-use Rattle.numbers.specs.Refusals.{first_refusal}
+use Rattle.numbers.specs.declared.refusal.Refusal.{Refusal}
+use Rattle.numbers.specs.declared.refusal.Refusal.TheVariants.{OutOfTurn}
+use Rattle.numbers.specs.Refusals.{answer_by, answered, first_refusal}
+use Rattle.numbers.proofs.Refusals.{refusal_most}
 use Rattle.numbers.proofs.Booleans.{both_true}
 use Rattle.calendar.specs.declared.OperatingHour.{OperatingHour}
 use Rattle.calendar.specs.Year.{hours_in_year, hours_in_day, months_in_year, month_ends, day_of, ended_by, month_of, is_working, is_peak, day_entry, calendar_refusal, operating_hour}
@@ -53,7 +58,7 @@ entry_working month false = ne_eqb ((2 * month + 0) % 2) 1 (λ e. omega arith)
 
 -- the answer for an hour of the year
 abbrev pub hour_of_year : ℕ → OperatingHour
-hour_of_year hour = record { refusal = 0; day = day_of hour; month = month_of hour; peak = is_peak hour }
+hour_of_year hour = record { day = day_of hour; month = month_of hour; peak = is_peak hour }
 
 pub refusal_inside : (hour : ℕ) → hour < hours_in_year → calendar_refusal hour ≡ 0
 unfolding calendar_refusal first_refusal
@@ -67,27 +72,29 @@ pub hour_inside : (hour : ℕ) → hour < hours_in_year → operating_hour hour 
 unfolding operating_hour
 hour_inside hour inside = rw (refusal_inside hour inside)
 
-pub hour_outside : (hour : ℕ) → hours_in_year ≤ hour
-    → operating_hour hour ≡ record { refusal = 3; day = 0; month = 0; peak = false }
+pub hour_outside : (hour : ℕ) → hours_in_year ≤ hour → operating_hour hour ≡ record { day = 0; month = 0; peak = false }
 unfolding operating_hour
 hour_outside hour outside = rw (refusal_outside hour outside)
 
--- an hour that the calendar does not refuse is one of the year
-pub accepted_inside : (hour : ℕ) → (operating_hour hour).refusal ≡ 0 → hour < hours_in_year
-accepted_inside hour accepted = by_test (leb hours_in_year hour) refl
-  where
-    by_test : (test : Bool) → leb hours_in_year hour ≡ test → hour < hours_in_year
-    by_test true e =
-        absurd (omega (arith, sym accepted ∙ ap (λ (h : OperatingHour). h.refusal) (hour_outside hour (leb-true hours_in_year hour e))))
-    by_test false e = leb-false hours_in_year hour e
+-- a calendar call is refused by 3 alone
+pub calendar_most : (hour : ℕ) → calendar_refusal hour ≤ 3
+unfolding calendar_refusal
+calendar_most hour = refusal_most 3 3 _ refl
 
-pub refused_outside : (hour : ℕ) → ((operating_hour hour).refusal ≡ 0 → ⊥) → hours_in_year ≤ hour
-refused_outside hour refused = by_test (leb hours_in_year hour) refl
+-- the hour that a call answers, or zeros
+pub hour_or_none : (hour : ℕ)
+    → result_unwrap_or (answered (calendar_refusal hour) 0 (operating_hour hour)) (record { day = 0; month = 0; peak = false }) ≡ operating_hour hour
+unfolding operating_hour
+hour_or_none hour = by_number (calendar_refusal hour)
   where
-    by_test : (test : Bool) → leb hours_in_year hour ≡ test → hours_in_year ≤ hour
-    by_test true e = leb-true hours_in_year hour e
-    by_test false e =
-        absurd (refused (ap (λ (h : OperatingHour). h.refusal) (hour_inside hour (leb-false hours_in_year hour e))))
+    by_number : (number : ℕ) → result_unwrap_or (answered number 0 (answer_by number (hour_of_year hour) (record { day = 0; month = 0; peak = false }))) (record { day = 0; month = 0; peak = false })
+        ≡ answer_by number (hour_of_year hour) (record { day = 0; month = 0; peak = false })
+    by_number zero = refl
+    by_number (suc n) = refl
+
+-- a refused call's answer
+pub out_of_turn : (hour : ℕ) → hours_in_year ≤ hour → Err OutOfTurn ≡ answered (calendar_refusal hour) 0 (operating_hour hour)
+out_of_turn hour outside = rw (refusal_outside hour outside)
 
 -- there are at most as many months as month ends
 at_most_one : (test : Bool) → cond test 1 0 ≤ 1
@@ -104,15 +111,15 @@ unfolding month_of
 month_most hour = ended_most month_ends hour
 
 -- the answer put together from the entry of the hour's day is the calendar's
-pub answered : (hour entry : ℕ) (peak : Bool) → hour < hours_in_year → entry ≡ day_entry (hour / hours_in_day)
+pub from_entry : (hour entry : ℕ) (peak : Bool) → hour < hours_in_year → entry ≡ day_entry (hour / hours_in_day)
     → peak ≡ (eqb (entry % 2) 1 && (leb 6 (hour % hours_in_day) && leb (hour % hours_in_day) 21))
-    → ◌≡◌ {A = OperatingHour}
-    (record { refusal = 0; day = hour / hours_in_day + 1; month = entry / 2; peak = peak })
-    (operating_hour hour)
+    → ◌≡◌ {A = Result OperatingHour Refusal}
+    (Ok (record { day = hour / hours_in_day + 1; month = entry / 2; peak = peak }))
+    (answered (calendar_refusal hour) 0 (operating_hour hour))
 unfolding is_peak day_entry
-answered hour entry peak inside e p =
-    rw (hour_inside hour inside)
-    (λ i. record { refusal = 0; day = day_of hour; month = month i; peak = (p ∙ ap (λ (working : Bool). working && in_day) peaks) i })
+from_entry hour entry peak inside e p =
+    rw (refusal_inside hour inside, hour_inside hour inside)
+    (λ i. Ok (record { day = day_of hour; month = month i; peak = (p ∙ ap (λ (working : Bool). working && in_day) peaks) i }))
   where
     in_day : Bool
     in_day = leb 6 (hour % hours_in_day) && leb (hour % hours_in_day) 21
@@ -127,7 +134,7 @@ answered hour entry peak inside e p =
     peaks = ap (λ (x : ℕ). eqb (x % 2) 1) e ∙ entry_working (month_of (hour / hours_in_day * hours_in_day)) working
 
 -- for a refused hour's answer and an accepted one's
-pub ruleset answers = (hour_outside, answered)
+pub ruleset answers = (out_of_turn, from_entry)
 
 -- ---- "The year has 4,064 peak hours and 4,696 off-peak"
 

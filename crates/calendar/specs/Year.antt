@@ -79,5 +79,5 @@ calendar_refusal hour = first_refusal ((3 if leb hours_in_year hour) ∷ [])
 unfoldable pub operating_hour : ℕ → OperatingHour
 operating_hour hour =
     answer_by (calendar_refusal hour)
-    (record { refusal = 0; day = day_of hour; month = month_of hour; peak = is_peak hour })
-    (record { refusal = calendar_refusal hour; day = 0; month = 0; peak = false })
+    (record { day = day_of hour; month = month_of hour; peak = is_peak hour })
+    (record { day = 0; month = 0; peak = false })

@@ -3,7 +3,10 @@
 #![tactic(auto)]
 
 ghost use Rattle.std.specs.Prelude.{◌≡◌, ◌<◌, ◌&&◌, eqb, leb};
-ghost use Rattle.calendar.specs.Year.{day_entry, days_in_year, is_month_end, month_end, operating_hour};
+ghost use Rattle.numbers.specs.Refusals.{answered};
+ghost use Rattle.calendar.specs.Year.{calendar_refusal, day_entry, days_in_year, is_month_end, month_end, operating_hour};
+
+use numbers::Refusal;
 
 mod days;
 
@@ -18,10 +21,9 @@ const MONTH_ENDS: [u64; 12] = [
     720, 1464, 2208, 2928, 3672, 4392, 5136, 5880, 6552, 7296, 8016, 8760,
 ];
 
-// What a calendar call gives.
+// The day, the month and the class of an hour.
 #[derive(Clone, Copy)]
 pub struct OperatingHour {
-    pub refusal: u8,
     pub day: u16,
     pub month: u8,
     pub peak: bool,
@@ -29,25 +31,19 @@ pub struct OperatingHour {
 
 // The calendar call: any hour number.
 #[tactic(auto, using(crate::proofs::Hours::answers))]
-pub fn operating_hour(hour: u64) -> OperatingHour
-    ensures { result ≡ operating_hour hour }
+pub fn operating_hour(hour: u64) -> Result<OperatingHour, Refusal>
+    ensures { result ≡ answered (calendar_refusal hour) 0 (operating_hour hour) }
 {
     if HOURS_IN_YEAR <= hour {
-        return OperatingHour {
-            refusal: 3,
-            day: 0,
-            month: 0,
-            peak: false,
-        };
+        return Err(Refusal::OutOfTurn);
     }
     let before = hour / 24;
     let entry = day_entry(before);
-    OperatingHour {
-        refusal: 0,
+    Ok(OperatingHour {
         day: (before + 1) as u16,
         month: entry / 2,
         peak: peak_in(entry % 2, hour % 24),
-    }
+    })
 }
 
 // The table's entry of the day that has this many days before it.
@@ -69,10 +65,7 @@ fn peak_in(working: u8, clock: u64) -> bool
 pub fn month_end(month: u64) -> u64
     ensures { result ≡ month_end month }
 {
-    if MONTHS_IN_YEAR <= month {
-        return 0;
-    }
-    MONTH_ENDS[month as usize]
+    MONTH_ENDS.get(month as usize).copied().unwrap_or(0)
 }
 
 // Whether, with so many months closed, one is open and these hours stand at its end.

@@ -3,14 +3,14 @@
 
 #![tactic(auto)]
 
-ghost use Rattle.std.specs.Prelude.{◌≤◌, ◌≡◌, false, length};
-ghost use Rattle.settlement_run.specs.Calls.{step_room};
+ghost use Rattle.std.specs.Prelude.{◌≤◌, ◌≡◌, false, length, OnOk};
+ghost use Rattle.settlement_run.specs.Calls.{step_room, stepped_run};
 
 use settlement_run::Run;
-use std::fs;
 use std::io::{Read, Write};
 use std::process::ExitCode;
 use std::rt::Files;
+use std::{fs, io};
 
 // One byte more than the longest rights file, so that a longer one shows.
 const RIGHTS_ROOM: usize = rights::FILE_BYTES + 1;
@@ -21,57 +21,55 @@ const TEXT_ROOM: usize = 65536;
 // The exit status where the statement could not be written out whole.
 const NOT_WHOLE: u8 = 2;
 
-// Where the program stands: the run, whether there may be more to read, and whether all text could be written so far.
-#[derive(Clone, Copy)]
-struct Standing {
-    going: bool,
-    whole: bool,
+// The statement as far as it has come: where the run stands, and its text that is still to be written out.
+#[derive(Drop)]
+struct Statement {
     run: Run,
+    text: [u8; TEXT_ROOM],
+    ghost has_room: { step_room ≤ length text },
+    ghost within: { run.end ≤ length text },
 }
 
 fn main(rt: HostRuntime) -> ExitCode {
-    let mut rights = [0u8; RIGHTS_ROOM];
-    let (readable, bytes) = read_rights(&rt, &mut rights);
-    let mut text = [0u8; TEXT_ROOM];
-    let opened = settlement_run::opening(readable, bytes);
-    let standing = settle_year(
-        &mut rt.stdin(),
-        &mut rt.stdout(),
-        opened,
-        &rights[..bytes],
-        &mut text,
-    );
-    if finish(&mut rt.stdout(), &mut rt.stderr(), standing, &mut text) {
-        return ExitCode::SUCCESS;
-    }
-    ExitCode::from(NOT_WHOLE)
-}
-
-// Reads ftr.bin: whether it could be opened and read to its end, and how many of its bytes stand in the buffer.
-fn read_rights(rt: &impl Files, rights: &mut [u8]) -> (bool, usize)
-    ensures { result.1 ≤ length rights.new }
-{
-    match fs::open(rt, "ftr.bin") {
-        Ok(mut file) => {
-            let bytes = read_full(&mut file, rights);
-            (is_at_end(&mut file), bytes)
+    let mut room = [0u8; RIGHTS_ROOM];
+    let file = read_rights(&rt, &mut room);
+    let rights = file.unwrap_or(&[]);
+    let mut statement = Statement {
+        run: settlement_run::opening(file.is_some(), rights.len()),
+        text: [0u8; TEXT_ROOM],
+    };
+    match statement.print(&mut rt.stdin(), &mut rt.stdout(), rights) {
+        Ok(()) => {
+            statement.explain(&mut rt.stderr());
+            ExitCode::SUCCESS
         }
-        Err(_) => (false, 0),
+        Err(_) => {
+            let _ = rt
+                .stderr()
+                .write_all(b"The statement could not be written out whole.\n");
+            ExitCode::from(NOT_WHOLE)
+        }
     }
 }
 
-// Reads until the buffer is full, the input ends or a read fails. Gives the number of bytes that were read.
-fn read_full(input: &mut impl Read, buffer: &mut [u8]) -> usize
-    ensures { result ≤ length buffer.new }
-{
+// The bytes of ftr.bin, if it can be opened and read to its end.
+fn read_rights<'a>(rt: &impl Files, room: &'a mut [u8]) -> Option<&'a [u8]> {
+    let mut file = fs::open(rt, "ftr.bin").ok()?;
+    let bytes = read_full(&mut file, room);
+    is_at_end(&mut file).then_some(bytes)
+}
+
+// Reads until the buffer is full, the input ends or a read fails. Gives the bytes that were read.
+fn read_full<'a>(input: &mut impl Read, buffer: &'a mut [u8]) -> &'a [u8] {
     let mut done = 0;
+    // A `while`: each read says how far it came, so that no range or iterator gives the next place.
     while done < buffer.len() {
         match input.read(&mut buffer[done..]) {
-            Ok(0) | Err(_) => return done,
+            Ok(0) | Err(_) => break,
             Ok(n) => done += n,
         }
     }
-    done
+    &buffer[..done]
 }
 
 // Whether there is nothing left to read: neither a byte nor an error.
@@ -80,144 +78,97 @@ fn is_at_end(input: &mut impl Read) -> bool {
     matches!(input.read(&mut probe), Ok(0))
 }
 
-// Settles block after block, at most one more than the year has hours: over that many every run has stopped (theorem enough_blocks).
-fn settle_year(
-    input: &mut impl Read,
-    output: &mut impl Write,
-    run: Run,
-    rights: &[u8],
-    text: &mut [u8],
-) -> Standing
-    requires { (step_room ≤ length text.old) × (run.end ≤ length text.old) }
-    ensures { result.run.end ≤ length text.new }
-{
-    let mut standing = Standing {
-        going: run.refusal == 0,
-        whole: true,
-        run,
-    };
-    let mut block = [0u8; hour_block::HOUR_BYTES];
-    let mut blocks = calendar::HOURS_IN_YEAR + 1;
-    while standing.going & (0 < blocks) {
-        standing = read_block(input, output, standing, rights, &mut block, text);
-        blocks -= 1;
+impl Statement {
+    // The whole statement to its last line; an error where it could not be written out whole.
+    fn print(
+        &mut self,
+        input: &mut impl Read,
+        output: &mut impl Write,
+        rights: &[u8],
+    ) -> io::Result<()> {
+        self.settle_year(input, output, rights)?;
+        self.write_out(output)?;
+        self.close_emptied();
+        self.write_out(output)
     }
-    standing
-}
 
-// Reads the next block, of which the last may be short, and settles it.
-fn read_block(
-    input: &mut impl Read,
-    output: &mut impl Write,
-    mut standing: Standing,
-    rights: &[u8],
-    block: &mut [u8],
-    text: &mut [u8],
-) -> Standing
-    requires { (step_room ≤ length text.old) × (standing.run.end ≤ length text.old) }
-    ensures { result.run.end ≤ length text.new }
-{
-    let bytes = read_full(input, block);
-    if bytes == 0 {
-        standing.going = false;
-        return standing;
+    // Settles block after block, at most one more than the year has hours: over that many every run has stopped (theorem enough_blocks).
+    fn settle_year(
+        &mut self,
+        input: &mut impl Read,
+        output: &mut impl Write,
+        rights: &[u8],
+    ) -> io::Result<()> {
+        let mut room = [0u8; hour_block::HOUR_BYTES];
+        for _ in 0..=calendar::HOURS_IN_YEAR {
+            if self.run.refusal != 0 {
+                break;
+            }
+            // The last block may be short.
+            let block = read_full(input, &mut room);
+            if block.is_empty() {
+                break;
+            }
+            self.settle_block(output, rights, block)?;
+        }
+        Ok(())
     }
-    let run = standing.run;
-    settle_block(output, run, rights, &block[..bytes], text)
-}
 
-// One step. Where the buffer is full, its text is written out and the step is taken again.
-fn settle_block(
-    output: &mut impl Write,
-    run: Run,
-    rights: &[u8],
-    block: &[u8],
-    text: &mut [u8],
-) -> Standing
-    requires { (step_room ≤ length text.old) × (run.end ≤ length text.old) }
-    ensures full_value { result.run.full ≡ false }
-    ensures end_in_bounds { result.run.end ≤ length text.new }
-{
-    let next = settlement_run::step(run, rights, block, text);
-    if next.full {
-        return settle_emptied(output, next, rights, block, text);
+    // One step. Where the buffer is full, its text is written out and the step is taken again.
+    fn settle_block(
+        &mut self,
+        output: &mut impl Write,
+        rights: &[u8],
+        block: &[u8],
+    ) -> io::Result<()>
+        ensures { OnOk result (self.new.run.full ≡ false) }
+    {
+        self.step(rights, block);
+        if self.run.full {
+            self.settle_emptied(output, rights, block)?;
+        }
+        Ok(())
     }
-    Standing {
-        going: next.refusal == 0,
-        whole: true,
-        run: next,
-    }
-}
 
-// The step with an empty buffer, which has room for it.
-fn settle_emptied(
-    output: &mut impl Write,
-    mut run: Run,
-    rights: &[u8],
-    block: &[u8],
-    text: &mut [u8],
-) -> Standing
-    requires { (step_room ≤ length text.old) × (run.end ≤ length text.old) }
-    ensures full_value { result.run.full ≡ false }
-    ensures end_in_bounds { result.run.end ≤ length text.new }
-{
-    let whole = write_out(output, text, run.end);
-    run.end = 0;
-    let next = settlement_run::step(run, rights, block, text);
-    Standing {
-        going: whole & (next.refusal == 0),
-        whole,
-        run: next,
+    // The text is written out; the step with an empty buffer, which has room for it.
+    fn settle_emptied(
+        &mut self,
+        output: &mut impl Write,
+        rights: &[u8],
+        block: &[u8],
+    ) -> io::Result<()>
+        ensures { OnOk result (self.new.run.full ≡ false) }
+    {
+        self.write_out(output)?;
+        self.run.end = 0;
+        self.step(rights, block);
+        Ok(())
     }
-}
 
-// The rest of the statement; then on standard error the sentence on a refusal, or that the statement is not whole. Whether it is whole.
-fn finish(
-    output: &mut impl Write,
-    errors: &mut impl Write,
-    standing: Standing,
-    text: &mut [u8],
-) -> bool
-    requires { (step_room ≤ length text.old) × (standing.run.end ≤ length text.old) }
-{
-    let run = standing.run;
-    if !print_last(output, standing, text) {
-        let _ = errors.write_all(b"The statement could not be written out whole.\n");
-        return false;
+    // One step, which does nothing but say so where the buffer is too full.
+    fn step(&mut self, rights: &[u8], block: &[u8])
+        ensures { self.new.run ≡ stepped_run rights.now block.now self.old.run self.old.text }
+    {
+        self.run = settlement_run::step(self.run, rights, block, &mut self.text);
     }
-    let end = settlement_run::explain(run, text);
-    write_out(errors, text, end);
-    true
-}
 
-// The text that is left and the last line; false if they, or text before them, could not be written.
-fn print_last(output: &mut impl Write, standing: Standing, text: &mut [u8]) -> bool
-    requires { (step_room ≤ length text.old) × (standing.run.end ≤ length text.old) }
-{
-    if !standing.whole {
-        return false;
+    // The last line in an empty buffer, which has room for it.
+    fn close_emptied(&mut self)
+        ensures { self.new.run.full ≡ false }
+    {
+        self.run.end = 0;
+        self.run = settlement_run::closing(self.run, &mut self.text);
     }
-    let run = standing.run;
-    if !write_out(output, text, run.end) {
-        return false;
+
+    // The sentence on the refusal that stopped the run, if one did; whether it can be written changes nothing.
+    #[tactic(auto, using(settlement_run::proofs::Within::sentence_within))]
+    fn explain(&mut self, errors: &mut impl Write) {
+        self.run.end = settlement_run::explain(self.run, &mut self.text);
+        let _ = self.write_out(errors);
     }
-    let closed = close_emptied(run, text);
-    write_out(output, text, closed.end)
-}
 
-// The last line in an empty buffer, which has room for it.
-fn close_emptied(mut run: Run, text: &mut [u8]) -> Run
-    requires { step_room ≤ length text.old }
-    ensures full_value { result.full ≡ false }
-    ensures end_in_bounds { result.end ≤ length text.new }
-{
-    run.end = 0;
-    settlement_run::closing(run, text)
-}
-
-// Writes the start of the buffer, all of it or false.
-fn write_out(output: &mut impl Write, text: &[u8], end: usize) -> bool
-    requires { end ≤ length text.now }
-{
-    output.write_all(&text[..end]).is_ok()
+    // Writes out the text, all of it or an error.
+    fn write_out(&self, output: &mut impl Write) -> io::Result<()> {
+        output.write_all(&self.text[..self.run.end])
+    }
 }

@@ -1,11 +1,11 @@
 -- One hour's input: where the amount and the prices stand in its bytes, and the call that decodes them.
 -- Assumes nothing.
-use Rattle.std.specs.Prelude.{ℕ, ◌+◌, ◌-◌, ◌*◌, ◌^◌, cond, not, ◌||◌, List, [], ◌∷◌, ltb, eqb, length, ℤ, pos, negsuc}
+use Rattle.std.specs.Prelude.{ℕ, ◌+◌, ◌-◌, ◌*◌, ◌^◌, cond, not, ◌||◌, List, [], ◌∷◌, ltb, eqb, length, ℤ, pos, negsuc, Result}
 use Rattle.numbers.specs.Limits.{nodes}
 use Rattle.numbers.specs.Lists.{list_below}
-use Rattle.numbers.specs.Refusals.{first_refusal, ◌if◌, answer_by}
+use Rattle.numbers.specs.Refusals.{first_refusal, ◌if◌, answer_by, answered}
 use Rattle.numbers.specs.Words.{word}
-use Rattle.hour_block.specs.declared.Decoded.{Decoded}
+use Rattle.numbers.specs.declared.refusal.Refusal.{Refusal}
 
 -- "collected (64 bits signed), then 1,024 prices (32 bits signed)": so many bytes each, in all "4,104 bytes"
 abbrev pub amount_bytes : ℕ
@@ -36,11 +36,9 @@ prices_in block = list_below (price_in block) nodes
 unfoldable pub decode_refusal : ℕ → ℕ → ℕ
 decode_refusal bytes places = first_refusal ((4 if not (eqb bytes hour_bytes) || not (eqb places nodes)) ∷ [])
 
--- the answer of a decode call; a refused one gives 0 beside its number
-unfoldable pub decoded : List ℕ → ℕ → Decoded
-decoded block places =
-    answer_by (decode_refusal (length block) places) (record { refusal = 0; amount = amount_in block })
-    (record { refusal = decode_refusal (length block) places; amount = pos 0 })
+-- the answer of a decode call: the amount collected
+unfoldable pub decoded : List ℕ → ℕ → Result ℤ Refusal
+decoded block places = answered (decode_refusal (length block) places) 0 (amount_in block)
 
 -- the lent prices after a decode call; a refused one leaves them as they were
 unfoldable pub prices_after : List ℕ → List ℤ → List ℤ

@@ -7,11 +7,14 @@ use mathlib.Core.List.{List, [], ◌∷◌, ◌++◌}
 use mathlib.Core.Path.{◌≡◌, refl, sym, ap, ap₂, subst, ◌∙◌}
 use native.Mathlib.Nat.{not-suc-le-zero, le_of_suc-le-suc, le_of_eq, eq-or-lt_of_le, mul-zero}
 use native.Mathlib.Numerals.{add-one}
+use native.Mathlib.Decide.{ℕ_discrete}
 use native.Mathlib.Omega.{arith}
 use lib.Dec.{ltb}
 use lib.ListN.{length, get_or, take, drop, set, length-append, get_or-append, get_or-eq_default}
 use lib.Seq.{get_or_at, get_or-take, take_all, take-suc-set, drop-cons, ext_get_or}
 use borrow.Author.Tests.{ltb-true, ltb-false, lt-ltb}
+use Rattle.std.specs.Array.{IsFromFnResult, IsFromFnResultFrom}
+use denote.Param.Members.{Mut, Called}
 use Rattle.numbers.specs.Lists.{total, count_below, list_below}
 
 -- a property of every number below n + 1, from that of every number below n and of n
@@ -136,6 +139,31 @@ pub filled_all : {A : Type 0} (f : ℕ → A) (xs : List A) (i n : ℕ) → leng
 filled_all f xs i n l at_end e = sym (take_all i xs l) ∙ e ∙ ap (λ (m : ℕ). list_below f m) at_end
 
 -- the sum of two lists in a row
+-- an array made by a function of each index, which keeps what it has captured, is the list of its values
+abbrev pub GivesAt : {F : Type 0} → Mut F (ℕ × Unit {0}) ℕ → F → (ℕ → ℕ) → ℕ → Type 0
+GivesAt {F} g f value i = (q : F) (x : ℕ) → Called g f (i, tt) x q → (q ≡ f) × (x ≡ value i)
+
+from_each : {F : Type 0} (g : Mut F (ℕ × Unit {0}) ℕ) (f : F) (xs : List ℕ) (value : ℕ → ℕ) (n i : ℕ) (p : F) → p ≡ f
+    → ((k : ℕ) → i ≤ k → k < i + n → GivesAt g f value k) → IsFromFnResultFrom g p xs i n
+    → (k : ℕ) → i ≤ k → k < i + n → get_or xs k 0 ≡ value k
+from_each g f xs value zero i p is gives made k from below = absurd (omega arith)
+from_each {F} g f xs value (suc n) i p is gives made k from below =
+    by_here (ℕ_discrete k i) (from_each g f xs value n (i + 1) made.0 here.0 (λ m above under. gives m (omega arith) (omega arith)) made.4 k)
+  where
+    here : (made.0 ≡ f) × (made.1 ≡ value i)
+    here = gives i (omega arith) (omega arith) made.0 made.1 (subst (λ (s : F). Called g s (i, tt) made.1 made.0) is made.3)
+
+    by_here : Dec (k ≡ i) → (i + 1 ≤ k → k < i + 1 + n → get_or xs k 0 ≡ value k) → get_or xs k 0 ≡ value k
+    by_here (yes e) rest = ap (λ (m : ℕ). get_or xs m 0) e ∙ made.2.1 0 ∙ here.1 ∙ ap value (sym e)
+    by_here (no other) rest = rest (omega arith) (omega arith)
+
+pub list_from_fn : {F : Type 0} {g : Mut F (ℕ × Unit {0}) ℕ} {f : F} {xs : List ℕ} {n : ℕ} (value : ℕ → ℕ)
+    → IsFromFnResult g f xs n → ((i : ℕ) → i < n → GivesAt g f value i) → xs ≡ list_below value n
+list_from_fn {g = g} {f = f} {xs = xs} {n = n} value made gives =
+    sym (list_below_get_or xs 0)
+    ∙ ap (list_below (λ i. get_or xs i 0)) made.long
+    ∙ list_below_ext _ _ n (λ i inside. from_each g f xs value n 0 f refl (λ k from below. gives k (omega arith)) made.each i (omega arith) (omega arith))
+
 pub total_append : (xs ys : List ℕ) → total (xs ++ ys) ≡ total xs + total ys
 unfolding total
 total_append [] ys = omega arith

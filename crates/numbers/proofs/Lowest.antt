@@ -6,8 +6,11 @@ use mathlib.Core.Bool.{Bool, true, false, cond, ◌||◌, false≢true}
 use mathlib.Core.Logic.{⊎_elim}
 use native.Mathlib.Nat.{le_of_suc-le-suc, le_refl, le-suc, le_trans, not-suc-le-zero, eq-or-lt_of_le}
 use native.Mathlib.Omega.{arith}
+use Rattle.std.specs.Prelude.{◌+◌, Option, Some, None}
+use Rattle.std.specs.Bool.{then_some}
+use Rattle.std.specs.Option.{option_or}
 use Rattle.numbers.specs.Lists.{any_below, lowest_below, IsLowest}
-use Rattle.numbers.proofs.Any.{any_here}
+use Rattle.numbers.proofs.Any.{any_here, any_more}
 use Rattle.numbers.proofs.Booleans.{neither_true}
 
 module _ (test : ℕ → Bool) where
@@ -73,3 +76,16 @@ module _ (test : ℕ → Bool) where
       by_test : (some : Bool) → any_below test n ≡ some → lowest_below test n ≤ n
       by_test true e = omega (arith, (lowest_found n e).inside)
       by_test false e = omega (arith, lowest_none n e)
+
+-- ---- a search that keeps the first number that passed so far
+
+abbrev pub FirstSoFar : (ℕ → Bool) → ℕ → Option ℕ → Type 0
+FirstSoFar test n None = any_below test n ≡ false
+FirstSoFar test n (Some r) = IsLowest test n r
+
+-- one number more
+pub first_next : (test : ℕ → Bool) (n : ℕ) (first : Option ℕ) (here : Bool) → FirstSoFar test n first → test n ≡ here
+    → FirstSoFar test (n + 1) (option_or first (then_some here n))
+first_next test n (Some r) here is _ = record { inside = omega (arith, is.inside); here = is.here; before = is.before }
+first_next test n None true none here = record { inside = omega arith; here = here; before = none }
+first_next test n None false none here = any_more test n none here

@@ -2,15 +2,21 @@
 -- Assumes nothing.
 use Prim.Native.Nat.{ℕ, zero, suc, ◌<◌, ◌≤◌}
 use mathlib.Core.Path.{◌≡◌, refl, sym, ap, ap₂, ◌∙◌}
-use mathlib.Core.Bool.{Bool, true, false, cond, ◌&&◌, ◌||◌}
+use mathlib.Core.Bool.{Bool, true, false, cond, not, ◌&&◌, ◌||◌, false≢true}
 use mathlib.Core.Logic.{◌⊎◌, inl, inr, ⊎_elim}
 use mathlib.Core.List.{List, [], ◌∷◌, ◌++◌}
 use native.Mathlib.Decide.{ℕ_discrete}
 use native.Mathlib.Omega.{arith}
 use lib.Dec.{leb, eqb}
-use borrow.Author.Tests.{leb-true, le-leb, eqb-false}
+use borrow.Author.Tests.{leb-true, le-leb, eqb-false, eqb-true, not-false}
+use Rattle.std.specs.Prelude.{Result, Ok, Err}
+use Rattle.std.specs.Result.{result_unwrap_or}
+use Rattle.numbers.specs.Lists.{any_below}
+use Rattle.numbers.proofs.Any.{any_miss}
 use Rattle.numbers.proofs.Booleans.{both_true, neither_true}
-use Rattle.numbers.specs.Refusals.{Row, ◌if◌, first_refusal, answer_by}
+use Rattle.numbers.specs.declared.refusal.Refusal.{Refusal}
+use Rattle.numbers.specs.declared.refusal.Refusal.TheVariants.{SpoiledBook, YearOver, OutOfTurn, WrongLength, WildPrice, WildAmount, BadRight, UnpricedNode, HourTooLarge, CarryFull, WantTooLarge}
+use Rattle.numbers.specs.Refusals.{Row, ◌if◌, first_refusal, answer_by, number_in, record_in, refusal_of, answered, answer_number, answer_record}
 
 -- some row of the table has this number
 abbrev pub has_number : ℕ → List Row → Bool
@@ -131,3 +137,113 @@ pub answer_refused : {A : Type 0} (refusal : ℕ) (accepted refused : A) → (re
     → answer_by refusal accepted refused ≡ refused
 answer_refused zero accepted refused some = absurd (some refl)
 answer_refused (suc n) accepted refused some = refl
+
+-- ---- refusals by their words
+
+-- a refusal is that of its number and its record
+pub refusal_is : (refusal : Refusal) → refusal_of (number_in refusal) (record_in refusal) ≡ refusal
+refusal_is SpoiledBook = refl
+refusal_is YearOver = refl
+refusal_is OutOfTurn = refl
+refusal_is WrongLength = refl
+refusal_is WildPrice = refl
+refusal_is WildAmount = refl
+refusal_is (BadRight faulty) = refl
+refusal_is (UnpricedNode faulty) = refl
+refusal_is HourTooLarge = refl
+refusal_is CarryFull = refl
+refusal_is WantTooLarge = refl
+
+-- no refusal has the number 0
+pub number_some : (refusal : Refusal) → number_in refusal ≡ 0 → ⊥
+number_some SpoiledBook e = omega arith
+number_some YearOver e = omega arith
+number_some OutOfTurn e = omega arith
+number_some WrongLength e = omega arith
+number_some WildPrice e = omega arith
+number_some WildAmount e = omega arith
+number_some (BadRight faulty) e = omega arith
+number_some (UnpricedNode faulty) e = omega arith
+number_some HourTooLarge e = omega arith
+number_some CarryFull e = omega arith
+number_some WantTooLarge e = omega arith
+
+-- the refusal of a number of the table has that number
+pub number_back : (number faulty : ℕ) → 0 < number → number ≤ 11 → number_in (refusal_of number faulty) ≡ number
+unfolding any_below
+number_back zero faulty some within = absurd (omega arith)
+number_back (suc n) faulty some within = eqb-true _ _ (not-false _ (any_miss differs 11 n refl (omega arith)))
+  where
+    differs : ℕ → Bool
+    differs k = not (eqb (number_in (refusal_of (suc k) faulty)) (suc k))
+
+-- and names the record, where the record is 0 in all but 7 and 8
+pub record_back : (number faulty : ℕ) → number ≤ 11 → ((number ≡ 7 → ⊥) → (number ≡ 8 → ⊥) → faulty ≡ 0)
+    → record_in (refusal_of number faulty) ≡ faulty
+unfolding any_below
+record_back number faulty within none = by_7 (ℕ_discrete number 7)
+  where
+    names : ℕ → Bool
+    names n = not (eqb (record_in (refusal_of n 0)) 0)
+
+    names_none : record_in (refusal_of number 0) ≡ 0
+    names_none = eqb-true _ _ (not-false _ (any_miss names 12 number refl (omega arith)))
+
+    by_8 : (number ≡ 7 → ⊥) → Dec (number ≡ 8) → record_in (refusal_of number faulty) ≡ faulty
+    by_8 not_7 (yes is) = ap (λ (n : ℕ). record_in (refusal_of n faulty)) is
+    by_8 not_7 (no other) =
+        let zero_is : faulty ≡ 0 = none not_7 other in
+        ap (λ (r : ℕ). record_in (refusal_of number r)) zero_is ∙ names_none ∙ sym zero_is
+
+    by_7 : Dec (number ≡ 7) → record_in (refusal_of number faulty) ≡ faulty
+    by_7 (yes is) = ap (λ (n : ℕ). record_in (refusal_of n faulty)) is
+    by_7 (no other) = by_8 other (ℕ_discrete number 8)
+
+-- ---- what a call answers
+
+module _ {A : Type 0} where
+  is_accepted : Result A Refusal → Bool
+  is_accepted (Ok value) = true
+  is_accepted (Err refusal) = false
+
+  refusal_or_last : Result A Refusal → Refusal
+  refusal_or_last (Ok value) = WantTooLarge
+  refusal_or_last (Err refusal) = refusal
+
+  value_or : A → Result A Refusal → A
+  value_or other (Ok value) = value
+  value_or other (Err refusal) = other
+
+  -- a refused call: its number is not 0, and its refusal is that of the number
+  pub answered_err : (number faulty : ℕ) (value : A) {refusal : Refusal} → answered number faulty value ≡ Err refusal
+      → (0 < number) × (refusal ≡ refusal_of number faulty)
+  unfolding is_accepted refusal_or_last
+  answered_err zero faulty value e = absurd (false≢true (sym (ap is_accepted e)))
+  answered_err (suc n) faulty value e = (omega arith, sym (ap refusal_or_last e))
+
+  -- an accepted one: its number is 0, and it answers the value
+  pub answered_ok : (number faulty : ℕ) (value : A) {given : A} → answered number faulty value ≡ Ok given
+      → (number ≡ 0) × (given ≡ value)
+  unfolding is_accepted value_or
+  answered_ok zero faulty value e = (refl, sym (ap (value_or value) e))
+  answered_ok (suc n) faulty value e = absurd (false≢true (ap is_accepted e))
+
+  -- the answer of a number that is not 0
+  pub refused_with : (number faulty : ℕ) (value : A) → 0 < number → answered number faulty value ≡ Err (refusal_of number faulty)
+  refused_with zero faulty value some = absurd (omega arith)
+  refused_with (suc n) faulty value some = refl
+
+  -- an answer in numbers: its number, its record, and its value or another
+  pub number_answered : (number faulty : ℕ) (value : A) → number ≤ 11 → answer_number (answered number faulty value) ≡ number
+  number_answered zero faulty value within = refl
+  number_answered (suc n) faulty value within = number_back (suc n) faulty (omega arith) within
+
+  pub record_answered : (number faulty : ℕ) (value : A) → number ≤ 11 → ((number ≡ 7 → ⊥) → (number ≡ 8 → ⊥) → faulty ≡ 0)
+      → answer_record (answered number faulty value) ≡ faulty
+  record_answered zero faulty value within none = sym (none (λ e. omega arith) (λ e. omega arith))
+  record_answered (suc n) faulty value within none = record_back (suc n) faulty within none
+
+  pub value_answered : (number faulty : ℕ) (value other : A)
+      → result_unwrap_or (answered number faulty value) other ≡ answer_by number value other
+  value_answered zero faulty value other = refl
+  value_answered (suc n) faulty value other = refl

@@ -13,9 +13,17 @@ use lib.ListN.{get_or, length, get_or-append}
 use lib.Pow.{pow-add}
 use lib.Seq.{get_or-append-add}
 use borrow.Author.Tests.{leb-true, leb-false}
+use Rattle.std.specs.Int.{from_le_bytes, w32, w64}
 use Rattle.numbers.specs.Lists.{list_below}
 use Rattle.numbers.specs.Words.{AreBytes, bytes_of, part_of, word}
 use Rattle.numbers.proofs.Counts.{get_or_beyond, get_or_list_below, length_list_below, list_below_ext}
+
+-- the words of four and of eight bytes are those that the library reads, low byte first
+pub from_le_bytes_4 : (bytes : List ℕ) → from_le_bytes w32 bytes ≡ word 4 bytes 0
+from_le_bytes_4 bytes = omega arith
+
+pub from_le_bytes_8 : (bytes : List ℕ) → from_le_bytes w64 bytes ≡ word 8 bytes 0
+from_le_bytes_8 bytes = omega arith
 
 pow_pos : (n : ℕ) → 0 < 256 ^ n
 pow_pos n = one-le-pow n 256 (zero-lt-suc 255)

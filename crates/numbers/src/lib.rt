@@ -1,15 +1,15 @@
-// What several crates share: limits, sums that cannot wrap, the two parts of a signed amount, words of bytes; and in specs/ and proofs/ the
+// What several crates share: limits, the refusals, sums that cannot wrap, the two parts of a signed amount; and in specs/ and proofs/ the
 // definitions and laws that they cite.
 
 #![tactic(auto)]
 
+mod refusal;
 mod signs;
 mod sums;
-mod words;
 
+pub use refusal::Refusal;
 pub use signs::{negative_part, positive_part};
 pub use sums::{capped_total, is_sum_above, plus_capped};
-pub use words::{word32, word64};
 
 // The owners: lines, wants and cells have a place for each.
 pub const OWNERS: usize = 64;

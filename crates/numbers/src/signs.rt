@@ -6,18 +6,12 @@ ghost use Rattle.numbers.specs.Signs.{positive, negative};
 pub fn positive_part(amount: i64) -> u64
     ensures { result ≡ positive amount }
 {
-    if amount < 0 {
-        return 0;
-    }
-    amount as u64
+    amount.max(0).unsigned_abs()
 }
 
-// A negative amount with its sign dropped, else 0. The least number has no opposite, so one is taken off first.
+// A negative amount with its sign dropped, else 0. The least number has no opposite among the signed ones.
 pub fn negative_part(amount: i64) -> u64
     ensures { result ≡ negative amount }
 {
-    if amount < 0 {
-        return (-1 - amount) as u64 + 1;
-    }
-    0
+    amount.min(0).unsigned_abs()
 }

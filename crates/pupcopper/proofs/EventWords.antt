@@ -1,7 +1,7 @@
 -- An event over the words of a book: refused by its words, or the event of the book that they stand for.
 -- Assumes nothing.
 use Prim.Native.Nat.{ℕ, ◌^◌, ◌<◌}
-use mathlib.Core.Path.{◌≡◌, sym, ap, subst, ◌∙◌}
+use mathlib.Core.Path.{◌≡◌, refl, sym, ap, subst, ◌∙◌}
 use mathlib.Core.Bool.{Bool, cond}
 use mathlib.Core.List.{List}
 use native.Mathlib.Decide.{ℕ_discrete}
@@ -10,9 +10,15 @@ use lib.ListN.{length}
 use lib.IntN.{ℤ}
 use Rattle.numbers.specs.Refusals.{answer_by}
 use Rattle.numbers.proofs.Refusals.{answer_accepted, answer_refused}
+use Rattle.std.specs.Prelude.{Result, Ok, Err}
+use Rattle.numbers.specs.declared.refusal.Refusal.{Refusal}
 use Rattle.settlement.specs.declared.Book.{Book}
-use Rattle.settlement.specs.declared.Settled.{Settled}
-use Rattle.settlement.specs.Events.{Call, fund, demand, book_after, lines, refusal, record_of, Answered}
+use Rattle.settlement.specs.declared.End.{End}
+use Rattle.settlement.specs.declared.End.TheVariants.{Month, Year}
+use Rattle.settlement.specs.declared.Funding.{Funding}
+use Rattle.settlement.specs.declared.Settled.{Settled as Handed}
+use Rattle.settlement.specs.Ends.{end_call}
+use Rattle.settlement.specs.Events.{Settled, in_numbers, result_of, Call, fund, demand, book_after, lines, refusal, record_of, Answered}
 use Rattle.settlement.proofs.Amounts.{small_amounts, records, record_within}
 use Rattle.settlement.proofs.Refusing.{record_none, gives_number, gives_record, gives_fund, gives_demand, gives_book_lem}
 use Rattle.pupcopper.specs.BookWords.{BookWords, words_of, book_from}
@@ -25,6 +31,19 @@ pub of_words : (call : Call) (words : BookWords) {book : Book} {lent after : Lis
     → Answered call book lent result after → Answered call (book_from words) lent result after
 of_words call words {lent = lent} {after = after} {result = result} is answered =
     subst (λ (b : Book). Answered call b lent result after) is answered
+
+-- the book of a result is the one that is handed back
+pub book_is : (settled : Handed) → (in_numbers settled).book ≡ settled.book
+book_is settled = by_outcome settled.outcome
+  where
+    by_outcome : (outcome : Result Funding Refusal) → (result_of outcome settled.book).book ≡ settled.book
+    by_outcome (Ok funding) = refl
+    by_outcome (Err why) = refl
+
+-- the records that a month end and a year end are lent: none
+pub few_at_end : (end : End) → records (end_call end) < 2 ^ 63
+few_at_end Month = omega arith
+few_at_end Year = omega arith
 
 module _ (call : Call) (words : BookWords) (report lent : List ℤ) where
   abbrev own : ℕ

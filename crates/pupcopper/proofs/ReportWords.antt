@@ -2,17 +2,22 @@
 -- Assumes nothing.
 use Prim.Native.Nat.{ℕ, ◌+◌, ◌≤◌}
 use mathlib.Core.Path.{◌≡◌, refl, sym, ap, ◌∙◌}
-use mathlib.Core.Bool.{Bool, true, false, cond}
+use mathlib.Core.Bool.{Bool, true, false, cond, not, false≢true}
 use mathlib.Core.List.{List, [], ◌∷◌, ◌++◌, append-nil}
 use native.Mathlib.Omega.{arith}
 use lib.Dec.{eqb}
-use lib.ListN.{length, drop, length-append, length-drop, drop_of_length-le}
-use lib.Seq.{sets, sets-eq, take_at}
+use lib.ListN.{length, drop, drop_of_length-le}
+use lib.Seq.{sets, sets-eq}
 use mir.Val.{bool_byte}
 use borrow.Author.Tests.{eqb-true, eq-eqb, ne_eqb, not-false}
-use Rattle.numbers.specs.Refusals.{answer_by}
-use Rattle.numbers.proofs.Refusals.{refusal_none, refusal_here, refusal_next}
-use Rattle.rights.specs.declared.Outcome.{Outcome}
+use Rattle.numbers.specs.Refusals.{answer_by, answered, answer_number, answer_record}
+use Rattle.numbers.proofs.Refusals.{refusal_none, refusal_here, refusal_next, number_answered, record_answered}
+use Rattle.std.specs.Prelude.{Result, Ok, Err, Some, None, unwrap_or, is_some}
+use Rattle.std.specs.Result.{result_unwrap_or}
+use Rattle.rights.specs.Layout.{refused_reading}
+use Rattle.rights.specs.Reader.{Given, given_number, given_right, says_none}
+use Rattle.numbers.specs.declared.refusal.Refusal.{Refusal}
+use Rattle.rights.proofs.Faults.{faulty_other}
 use Rattle.rights.specs.Faults.{faulty_record}
 use Rattle.pupcopper.specs.Calls.{number_of, is_wrong_report, report_refusal, outcome_words}
 
@@ -20,6 +25,30 @@ use Rattle.pupcopper.specs.Calls.{number_of, is_wrong_report, report_refusal, ou
 pub flag_byte : (flag : Bool) → bool_byte flag ≡ cond flag 1 0
 flag_byte true = refl
 flag_byte false = refl
+
+-- what a reader gives, in numbers: its number, its right or zeros, and whether it says that there is none
+pub given_number_lem : (given : Given) → answer_number (unwrap_or given (Ok (refused_reading 0).right)) ≡ given_number given
+given_number_lem (Some (Ok right)) = refl
+given_number_lem (Some (Err refusal)) = refl
+given_number_lem None = refl
+
+pub given_right_lem : (given : Given)
+    → result_unwrap_or (unwrap_or given (Ok (refused_reading 0).right)) (refused_reading 0).right ≡ given_right given
+given_right_lem (Some (Ok right)) = refl
+given_right_lem (Some (Err refusal)) = refl
+given_right_lem None = refl
+
+pub given_none : (given : Given) (none : Bool) → is_some given ≡ not none → none ≡ says_none given
+given_none given true e = absurd_or given e
+  where
+    absurd_or : (given : Given) → is_some given ≡ false → true ≡ says_none given
+    absurd_or (Some right) e = absurd (false≢true (sym e))
+    absurd_or None e = refl
+given_none given false e = some_or given e
+  where
+    some_or : (given : Given) → is_some given ≡ true → false ≡ says_none given
+    some_or (Some right) e = refl
+    some_or None e = absurd (false≢true e)
 
 module _ (words report : ℕ) where
   pub report_fits : report ≡ words → is_wrong_report words report ≡ false
@@ -70,22 +99,14 @@ pub written_all : {A : Type 0} (values before : List A) → length before ≡ le
 written_all values before all = written values before (omega arith) ∙ nothing_behind values before all
 
 -- the report of a target call and of a row call: the record that the outcome names
-pub outcome_reported : (prices : ℕ) (file : List ℕ) (outcome : Outcome) (refusal : ℕ) (report : List ℕ) → length report ≡ outcome_words
-    → outcome.refusal ≡ refusal → outcome.faulty ≡ faulty_record prices file outcome.refusal
-    → sets report 0 (outcome.faulty ∷ []) ≡ answer_by (report_refusal outcome_words (length report)) (faulty_record prices file refusal ∷ []) report
-outcome_reported prices file outcome refusal report fits is names =
-    written_all (outcome.faulty ∷ []) report fits
-    ∙ ap (λ (n : ℕ). n ∷ []) (names ∙ ap (faulty_record prices file) is)
-    ∙ right_given outcome_words (length report) _ _ fits
+module _ (prices : ℕ) (file report : List ℕ) (fits : length report ≡ outcome_words) {refusal : ℕ} {outcome : Result (Unit {0}) Refusal} (is : outcome ≡ answered refusal (faulty_record prices file refusal) tt) (within : refusal ≤ 8) where
+  pub outcome_number : answer_number outcome ≡ refusal
+  outcome_number = ap answer_number is ∙ number_answered refusal _ tt (omega arith)
 
--- words written behind others, to the end
-pub written_behind : {A : Type 0} (front values before : List A) → length before ≡ length front + length values
-    → sets (front ++ drop (length front) before) (length front) values ≡ front ++ values
-written_behind front values before all =
-    let whole = front ++ drop (length front) before in
-    let long : length whole ≡ length front + length values =
-    length-append front (drop (length front) before) ∙ ap (λ (n : ℕ). length front + n) (length-drop (length front) before) ∙ omega arith in
-    sets-eq values whole (length front) (omega (arith, long))
-    ∙ ap (λ (start : List _). start ++ values ++ drop (length front + length values) whole) (take_at front (drop (length front) before) (length front) refl)
-    ∙ ap (λ (rest : List _). front ++ values ++ rest) (drop_of_length-le whole {i = length front + length values} (omega (arith, long)))
-    ∙ append-nil (front ++ values)
+  pub outcome_reported : {names : ℕ} → names ≡ answer_record outcome
+      → sets report 0 (names ∷ []) ≡ answer_by (report_refusal outcome_words (length report)) (faulty_record prices file refusal ∷ []) report
+  outcome_reported {names} e =
+      written_all (names ∷ []) report fits
+      ∙ ap (λ (n : ℕ). n ∷ [])
+      (e ∙ ap answer_record is ∙ record_answered refusal _ tt (omega arith) (faulty_other prices file refusal))
+      ∙ right_given outcome_words (length report) _ _ fits

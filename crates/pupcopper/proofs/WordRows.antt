@@ -1,16 +1,20 @@
 -- What the words of a book and of a report call for before there is a book, row by row, and the lengths of words that are a book's.
 -- Assumes nothing.
-use Prim.Native.Nat.{ℕ, ◌≤◌}
-use mathlib.Core.Path.{◌≡◌, refl, sym, ◌∙◌}
+use Prim.Native.Nat.{ℕ, ◌≤◌, ◌<◌}
+use mathlib.Core.Path.{◌≡◌, refl, sym, ap, subst, ◌∙◌}
 use mathlib.Core.Bool.{true, false, ◌&&◌}
 use mathlib.Core.List.{[]}
 use native.Mathlib.Omega.{arith}
 use lib.Dec.{eqb}
 use lib.ListN.{length}
 use borrow.Author.Tests.{eqb-true, not-false}
+use Rattle.std.specs.Prelude.{Result, Ok, Err}
+use Rattle.numbers.specs.declared.refusal.Refusal.{Refusal}
+use Rattle.numbers.specs.Refusals.{answered, number_in}
 use Rattle.numbers.proofs.Booleans.{both_true}
-use Rattle.numbers.proofs.Refusals.{refusal_none, refusal_here, refusal_next, refusal_clear, refusal_most}
-use Rattle.pupcopper.specs.BookWords.{BookWords, count_words, shortfall_words, surplus_words, is_wrong_count, is_wrong_mark, is_overdrawn}
+use Rattle.numbers.proofs.Refusals.{refusal_none, refusal_here, refusal_next, refusal_clear, refusal_most, answered_err, answered_ok, number_back}
+use Rattle.settlement.specs.declared.Book.{Book}
+use Rattle.pupcopper.specs.BookWords.{BookWords, book_from, count_words, shortfall_words, surplus_words, is_wrong_count, is_wrong_mark, is_overdrawn}
 use Rattle.pupcopper.specs.Calls.{is_wrong_report, words_refusal, open_refusal}
 
 -- so many words are a book's
@@ -82,3 +86,23 @@ module _ (places : ℕ) (words : BookWords) (report : ℕ) where
   pub words_most : words_refusal places words report ≤ 4
   unfolding words_refusal
   words_most = refusal_most 1 4 _ refl
+
+-- what is answered for words that are read from lent slices, told of the words in the slices
+module _ (places : ℕ) (words : BookWords) (report : ℕ) {read : BookWords} (same : read ≡ words) where
+  abbrev table : ℕ
+  table = words_refusal places words report
+
+  told : {outcome : Result Book Refusal} → outcome ≡ answered (words_refusal places read report) 0 (book_from read)
+      → outcome ≡ answered table 0 (book_from words)
+  told {outcome} is = subst (λ (w : BookWords). outcome ≡ answered (words_refusal places w report) 0 (book_from w)) same is
+
+  -- a book: the words call for no refusal, and it is the one that they stand for
+  pub given_book : {book : Book} → Ok book ≡ answered (words_refusal places read report) 0 (book_from read) → (table ≡ 0) × (book ≡ book_from words)
+  given_book is = answered_ok _ 0 _ (sym (told is))
+
+  -- a refusal: its number is the table's, and not 0
+  pub refused_number : {why : Refusal} → Err why ≡ answered (words_refusal places read report) 0 (book_from read)
+      → (number_in why ≡ table) × (0 < table)
+  refused_number is =
+      let refused = answered_err table 0 _ (sym (told is)) in
+      (ap number_in refused.1 ∙ number_back table 0 refused.0 (omega (arith, words_most places words report)), refused.0)

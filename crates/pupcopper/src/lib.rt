@@ -4,23 +4,27 @@
 
 ghost use Rattle.std.specs.Prelude.{◌≡◌, [], ◌∷◌, length};
 ghost use Rattle.numbers.specs.Refusals.{answer_by};
-ghost use Rattle.calendar.specs.Year.{operating_hour};
+ghost use Rattle.calendar.specs.Year.{calendar_refusal, operating_hour};
 ghost use Rattle.rights.specs.Layout.{reading};
 ghost use Rattle.rights.specs.Faults.{faulty_record};
-ghost use Rattle.split.specs.Split.{allocation, payments_after};
+ghost use Rattle.split.specs.Split.{left, payments_after, split_refusal};
 ghost use Rattle.target.specs.Rounding.{round_tenths};
 ghost use Rattle.target.specs.Rows.{row_lines, rows_refusal};
 ghost use Rattle.target.specs.Target.{target_lines, target_refusal};
 ghost use Rattle.settlement.specs.Book.{fresh as freshBook};
+ghost use Rattle.settlement.specs.Ends.{end_call};
 ghost use Rattle.settlement.specs.Events.{hour_call, month_end_call, year_end_call};
 ghost use Rattle.statement_text.specs.Buffer.{end_after, text_after};
 ghost use Rattle.statement_text.specs.Sentence.{sentence, sentence_room};
 ghost use Rattle.pupcopper.specs.Billing.{billing_class};
 ghost use Rattle.pupcopper.specs.BookWords.{words_in, words_of};
 ghost use Rattle.pupcopper.specs.Calls.{number_of, report_refusal, hour_words, hour_report, right_words, right_report, step_words, step_report, step_refusal, outcome_words, allocation_words, open_refusal, words_refusal, Settles};
+ghost use Rattle.pupcopper.specs.InnerContracts.{words_lent, SameSlices};
 ghost use Rattle.pupcopper.specs.RunCalls.{HostSteps, closed_words, closed_report, closing_run, closing_text, reported};
 
-use settlement::Book;
+use book_words::{BookWords, LentBook};
+use rights::Reader;
+use settlement::{Book, End};
 
 mod book_words;
 mod reports;
@@ -33,11 +37,10 @@ mod runs;
 pub extern "C" fn pupcopper_class(hour: u64) -> u8
     ensures { result ≡ billing_class hour }
 {
-    let found = calendar::operating_hour(hour);
-    if found.refusal != 0 {
-        return 255;
+    match calendar::operating_hour(hour) {
+        Ok(found) => 2 * found.month + u8::from(found.peak),
+        Err(_) => 255,
     }
-    2 * found.month + found.peak as u8
 }
 
 // Tenths of a cent to cents, halves away from zero.
@@ -53,17 +56,15 @@ pub extern "C" fn pupcopper_cents(tenths: i64) -> i64
 // The calendar call. The report gets the day, the month, and 1 in a peak hour.
 #[unsafe(no_mangle)]
 pub extern "C" fn pupcopper_calendar(hour: u64, report: &mut [u64]) -> u8
-    ensures value { result ≡ number_of (report_refusal hour_words (length report.old)) (operating_hour hour).refusal }
+    ensures value { result ≡ number_of (report_refusal hour_words (length report.old)) (calendar_refusal hour) }
     ensures report_after { report.new ≡ answer_by (report_refusal hour_words (length report.old)) (hour_report (operating_hour hour)) report.old }
 {
     if report.len() != reports::HOUR_WORDS {
         return 4;
     }
-    let found = calendar::operating_hour(hour);
-    report[0] = found.day as u64;
-    report[1] = found.month as u64;
-    report[2] = found.peak as u64;
-    found.refusal
+    let outcome = calendar::operating_hour(hour);
+    report.copy_from_slice(&reports::of_hour(outcome.unwrap_or(reports::NO_HOUR)));
+    reports::number_of(outcome)
 }
 
 // The read by record number. The report gets the eight fields.
@@ -75,10 +76,9 @@ pub extern "C" fn pupcopper_read(rights: &[u8], number: u64, report: &mut [u64])
     if report.len() != reports::RIGHT_WORDS {
         return 4;
     }
-    let reading = rights::read(rights, number);
-    let right = reading.right;
-    reports::write_right(right, report);
-    reading.refusal
+    let outcome = rights::read(rights, number);
+    report.copy_from_slice(&reports::of_right(outcome.unwrap_or(reports::NO_RIGHT)));
+    reports::number_of(outcome)
 }
 
 // A reader's step from a record number. The report gets the eight fields, the number to go on with, and 1 if no record is left.
@@ -90,14 +90,26 @@ pub extern "C" fn pupcopper_next(rights: &[u8], next: u64, report: &mut [u64]) -
     if report.len() != reports::STEP_WORDS {
         return 4;
     }
-    let step = rights::take_at(rights, next);
-    let given = step.given;
-    let told = reports::tell(given);
-    let right = told.right;
-    reports::write_right(right, report);
-    report[8] = step.next;
-    report[9] = told.none;
-    told.number
+    let mut reader = Reader { file: rights, next };
+    let given = reader.next();
+    let outcome = given.unwrap_or(Ok(reports::NO_RIGHT));
+    let [owner, source, sink, kind, class, size, first, last] = reports::of_right(outcome.unwrap_or(
+        reports::NO_RIGHT,
+    ));
+    let none = u64::from(given.is_none());
+    report.copy_from_slice(&[
+        owner,
+        source,
+        sink,
+        kind,
+        class,
+        size,
+        first,
+        last,
+        reader.next,
+        none,
+    ]);
+    reports::number_of(outcome)
 }
 
 // The target call. The report gets the record number of 7 and 8.
@@ -117,8 +129,8 @@ pub extern "C" fn pupcopper_targets(
         return 4;
     }
     let outcome = target::targets(rights, prices, hour, lines);
-    report[0] = outcome.faulty;
-    outcome.refusal
+    report[0] = reports::record_of(outcome);
+    reports::number_of(outcome)
 }
 
 // The row call. The report is that of the target call.
@@ -137,9 +149,9 @@ pub extern "C" fn pupcopper_rows(
     if report.len() != reports::OUTCOME_WORDS {
         return 4;
     }
-    let given = target::rows(rights, prices, hour, lines);
-    report[0] = given.faulty;
-    given.refusal
+    let outcome = target::rows(rights, prices, hour, lines);
+    report[0] = reports::record_of(outcome);
+    reports::number_of(outcome)
 }
 
 // The split call. The report gets what is left of the fund.
@@ -150,16 +162,16 @@ pub extern "C" fn pupcopper_split(
     payments: &mut [u64],
     report: &mut [u64],
 ) -> u8
-    ensures value { result ≡ number_of (report_refusal allocation_words (length report.old)) (allocation fund wants.now (length payments.old)).refusal }
+    ensures value { result ≡ number_of (report_refusal allocation_words (length report.old)) (split_refusal wants.now (length payments.old)) }
     ensures payments_after { payments.new ≡ answer_by (report_refusal allocation_words (length report.old)) (payments_after fund wants.now payments.old) payments.old }
-    ensures report_after { report.new ≡ answer_by (report_refusal allocation_words (length report.old)) ((allocation fund wants.now (length payments.old)).left ∷ []) report.old }
+    ensures report_after { report.new ≡ answer_by (report_refusal allocation_words (length report.old)) (answer_by (split_refusal wants.now (length payments.old)) (left fund wants.now) 0 ∷ []) report.old }
 {
     if report.len() != reports::ALLOCATION_WORDS {
         return 4;
     }
-    let allocation = split::split(fund, wants, payments);
-    report[0] = allocation.left;
-    allocation.refusal
+    let outcome = split::split(fund, wants, payments);
+    report[0] = outcome.unwrap_or(0);
+    reports::number_of(outcome)
 }
 
 // ---- the book, as three lent slices: its counts and mark, its shortfalls, its surpluses
@@ -174,10 +186,15 @@ pub extern "C" fn pupcopper_open(
     ensures value { result ≡ open_refusal (words_in counts.old shortfalls.old surpluses.old) }
     ensures words_after { words_in counts.new shortfalls.new surpluses.new ≡ answer_by result (words_of freshBook) (words_in counts.old shortfalls.old surpluses.old) }
 {
-    if book_words::is_no_book(counts.len(), shortfalls.len(), surpluses.len()) {
+    let mut lent = LentBook {
+        counts,
+        shortfalls,
+        surpluses,
+    };
+    if lent.words().is_no_book() {
         return 4;
     }
-    book_words::write_book(Book::fresh(), counts, shortfalls, surpluses);
+    lent.write(Book::fresh());
     0
 }
 
@@ -195,18 +212,21 @@ pub extern "C" fn pupcopper_hour(
 ) -> u8
     ensures { Settles (hour_call rights.now prices.now collected) (words_in counts.old shortfalls.old surpluses.old) report.old lines.old result (words_in counts.new shortfalls.new surpluses.new) report.new lines.new }
 {
-    let taken = book_words::take(counts, shortfalls, surpluses, report);
-    if taken.refusal != 0 {
-        return taken.refusal;
-    }
-    let book = taken.book;
-    book_words::give_back(
-        book.hour(rights, prices, collected, lines),
+    let mut lent = LentBook {
         counts,
         shortfalls,
         surpluses,
-        report,
-    )
+    };
+    match lent.words().book(report.len(), reports::SETTLED_WORDS) {
+        Ok(book) => {
+            let settled = book.hour(rights, prices, collected, lines);
+            lent.give_back(settled, report)
+        }
+        Err(refusal) => {
+            reports::write_refused(report);
+            refusal.number()
+        }
+    }
 }
 
 // Closes the month.
@@ -220,12 +240,12 @@ pub extern "C" fn pupcopper_month_end(
 ) -> u8
     ensures { Settles month_end_call (words_in counts.old shortfalls.old surpluses.old) report.old lines.old result (words_in counts.new shortfalls.new surpluses.new) report.new lines.new }
 {
-    let taken = book_words::take(counts, shortfalls, surpluses, report);
-    if taken.refusal != 0 {
-        return taken.refusal;
-    }
-    let book = taken.book;
-    book_words::give_back(book.month_end(lines), counts, shortfalls, surpluses, report)
+    let mut lent = LentBook {
+        counts,
+        shortfalls,
+        surpluses,
+    };
+    close_words(End::Month, &mut lent, lines, report)
 }
 
 // Ends the year.
@@ -239,12 +259,29 @@ pub extern "C" fn pupcopper_year_end(
 ) -> u8
     ensures { Settles year_end_call (words_in counts.old shortfalls.old surpluses.old) report.old lines.old result (words_in counts.new shortfalls.new surpluses.new) report.new lines.new }
 {
-    let taken = book_words::take(counts, shortfalls, surpluses, report);
-    if taken.refusal != 0 {
-        return taken.refusal;
+    let mut lent = LentBook {
+        counts,
+        shortfalls,
+        surpluses,
+    };
+    close_words(End::Year, &mut lent, lines, report)
+}
+
+// The month end or the year end.
+fn close_words(end: End, lent: &mut LentBook, lines: &mut [i64], report: &mut [i64]) -> u8
+    ensures settles { Settles (end_call end) (words_lent lent.old) report.old lines.old result (words_lent lent.new) report.new lines.new }
+    ensures same_slices { SameSlices lent.old lent.new }
+{
+    match lent.words().book(report.len(), reports::SETTLED_WORDS) {
+        Ok(book) => {
+            let settled = book.close(end, lines);
+            lent.give_back(settled, report)
+        }
+        Err(refusal) => {
+            reports::write_refused(report);
+            refusal.number()
+        }
     }
-    let book = taken.book;
-    book_words::give_back(book.year_end(lines), counts, shortfalls, surpluses, report)
 }
 
 // ---- a run as the program makes it: a step for each block, then the closing
@@ -264,24 +301,24 @@ pub extern "C" fn pupcopper_step(
 ) -> u8
     ensures { HostSteps rights.now block.now (words_in counts.old shortfalls.old surpluses.old) text.old end report.old result (words_in counts.new shortfalls.new surpluses.new) text.new report.new }
 {
-    let refusal = book_words::refusal(
+    let mut lent = LentBook {
         counts,
         shortfalls,
         surpluses,
-        report.len(),
-        runs::STEPPED_WORDS,
-    );
-    if refusal != 0 {
-        runs::write_stepped(runs::unmoved(end), report);
-        return refusal;
+    };
+    match lent.words().book(report.len(), runs::STEPPED_WORDS) {
+        Ok(book) => {
+            let run = runs::run_from(book, 0, end);
+            let next = settlement_run::step(run, rights, block, text);
+            lent.write(next.book);
+            runs::write_stepped(next, report);
+            next.refusal
+        }
+        Err(refusal) => {
+            runs::write_stepped(runs::unmoved(end), report);
+            refusal.number()
+        }
     }
-    let book = book_words::book_from(counts, shortfalls, surpluses);
-    let run = runs::run_from(book, 0, end);
-    let next = settlement_run::step(run, rights, block, text);
-    let after = next.book;
-    book_words::write_book(after, counts, shortfalls, surpluses);
-    runs::write_stepped(next, report);
-    next.refusal
 }
 
 // What comes after the last block: both surpluses, or the refusal that stopped the run.
@@ -299,21 +336,22 @@ pub extern "C" fn pupcopper_closing(
     ensures text_after { text.new ≡ closing_text (words_in counts.now shortfalls.now surpluses.now) refusal text.old end (length report.old) }
     ensures report_after { report.new ≡ reported closed_words report.old (closed_report (closing_run (words_in counts.now shortfalls.now surpluses.now) refusal text.old end (length report.old))) }
 {
-    let refused = book_words::refusal(
+    let words = BookWords {
         counts,
         shortfalls,
         surpluses,
-        report.len(),
-        runs::CLOSED_WORDS,
-    );
-    if refused != 0 {
-        runs::write_closed(runs::unmoved(end), report);
-        return refused;
+    };
+    match words.book(report.len(), runs::CLOSED_WORDS) {
+        Ok(book) => {
+            let closed = settlement_run::closing(runs::run_from(book, refusal, end), text);
+            runs::write_closed(closed, report);
+            0
+        }
+        Err(refused) => {
+            runs::write_closed(runs::unmoved(end), report);
+            refused.number()
+        }
     }
-    let book = book_words::book_from(counts, shortfalls, surpluses);
-    let closed = settlement_run::closing(runs::run_from(book, refusal, end), text);
-    runs::write_closed(closed, report);
-    0
 }
 
 // The sentence on a refusal, behind a place of the text. Gives the place behind it.

@@ -1,10 +1,11 @@
 // What a call gives beside its number, written into its report.
-ghost use Rattle.std.specs.Prelude.{◌^◌, ◌≤◌, ◌<◌, ◌≡◌, cond, ◌++◌, length, drop};
-ghost use Rattle.rights.specs.Layout.{refused_reading};
-ghost use Rattle.pupcopper.specs.InnerContracts.{told_of};
-ghost use Rattle.pupcopper.specs.Calls.{right_words, right_report, settled_report, settled_words, is_wrong_report};
+ghost use Rattle.std.specs.Prelude.{◌^◌, ◌<◌, ◌≡◌, cond, length};
+ghost use Rattle.numbers.specs.Refusals.{answer_number, answer_record};
+ghost use Rattle.pupcopper.specs.Calls.{hour_report, right_report, settled_report, settled_words, is_wrong_report};
 
-use rights::{Given, Right};
+use calendar::OperatingHour;
+use numbers::Refusal;
+use rights::Right;
 
 // The words of each report: day, month and class; the eight fields; those, the next record number and whether none is left; the
 // record number; what is left; the record number, F and D.
@@ -20,63 +21,69 @@ pub(crate) const ALLOCATION_WORDS: usize = 1;
 
 pub(crate) const SETTLED_WORDS: usize = 3;
 
-// Writes the eight fields from the report's start.
-pub(crate) fn write_right(right: Right, report: &mut [u64])
-    requires { right_words ≤ length report.old }
-    ensures { report.new ≡ right_report right ++ drop right_words report.old }
-{
-    report[0] = right.owner as u64;
-    report[1] = right.source as u64;
-    report[2] = right.sink as u64;
-    report[3] = right.kind as u64;
-    report[4] = right.class as u64;
-    report[5] = right.size as u64;
-    report[6] = right.first as u64;
-    report[7] = right.last as u64;
-}
+// Zeros, in the place of an hour and of a right that a refused call does not give.
+pub(crate) const NO_HOUR: OperatingHour = OperatingHour {
+    day: 0,
+    month: 0,
+    peak: false,
+};
 
-// What a reader gives, in numbers: its refusal, 1 if it says that there is none, and the eight fields.
-#[derive(Clone, Copy)]
-pub(crate) struct Told {
-    pub(crate) number: u8,
-    pub(crate) none: u64,
-    pub(crate) right: Right,
-}
+pub(crate) const NO_RIGHT: Right = Right {
+    owner: 0,
+    source: 0,
+    sink: 0,
+    kind: 0,
+    class: 0,
+    size: 0,
+    first: 0,
+    last: 0,
+};
 
-pub(crate) fn tell(given: Given) -> Told
-    ensures { result ≡ told_of given }
+// The number of what a call answers: 0 where it is accepted.
+pub(crate) fn number_of<T: Copy>(outcome: Result<T, Refusal>) -> u8
+    ensures { result ≡ answer_number outcome }
 {
-    match given {
-        Given::Record(right) => Told {
-            number: 0,
-            none: 0,
-            right,
-        },
-        Given::Bad => no_record(7, 0),
-        Given::WrongLength => no_record(4, 0),
-        Given::Finished => no_record(0, 1),
+    match outcome {
+        Ok(_) => 0,
+        Err(refusal) => refusal.number(),
     }
 }
 
-// Zeros in the place of a record.
-fn no_record(number: u8, none: u64) -> Told
-    ensures { result ≡ record { number = number; none = none; right = (refused_reading 0).right } }
+// The record that it names, or 0.
+pub(crate) fn record_of<T: Copy>(outcome: Result<T, Refusal>) -> u64
+    ensures { result ≡ answer_record outcome }
 {
-    let right = Right {
-        owner: 0,
-        source: 0,
-        sink: 0,
-        kind: 0,
-        class: 0,
-        size: 0,
-        first: 0,
-        last: 0,
-    };
-    Told {
-        number,
-        none,
-        right,
+    match outcome {
+        Ok(_) => 0,
+        Err(refusal) => refusal.record(),
     }
+}
+
+// The words of an hour.
+pub(crate) fn of_hour(hour: OperatingHour) -> [u64; HOUR_WORDS]
+    ensures { result ≡ hour_report hour }
+{
+    [
+        u64::from(hour.day),
+        u64::from(hour.month),
+        u64::from(hour.peak),
+    ]
+}
+
+// The eight fields.
+pub(crate) fn of_right(right: Right) -> [u64; RIGHT_WORDS]
+    ensures { result ≡ right_report right }
+{
+    [
+        u64::from(right.owner),
+        u64::from(right.source),
+        u64::from(right.sink),
+        u64::from(right.kind),
+        u64::from(right.class),
+        u64::from(right.size),
+        u64::from(right.first),
+        u64::from(right.last),
+    ]
 }
 
 // Zeros for an event that is refused by its words, if the report has its places.
@@ -94,7 +101,5 @@ pub(crate) fn write_settled(faulty: u64, fund: u64, demand: u64, report: &mut [i
     requires amounts_fit { (faulty < 2 ^ 63) × (fund < 2 ^ 63) × (demand < 2 ^ 63) }
     ensures { report.new ≡ settled_report faulty fund demand }
 {
-    report[0] = faulty as i64;
-    report[1] = fund as i64;
-    report[2] = demand as i64;
+    report.copy_from_slice(&[faulty as i64, fund as i64, demand as i64]);
 }

@@ -39,11 +39,13 @@ pub(crate) fn write_stepped(run: Run, report: &mut [u64])
     ensures { report.new ≡ reported stepped_words report.old (stepped_report run) }
 {
     if report.len() == STEPPED_WORDS {
-        report[0] = run.full as u64;
-        report[1] = run.end as u64;
-        report[2] = run.tag as u64;
-        report[3] = run.number;
-        report[4] = run.faulty;
+        report.copy_from_slice(&[
+            u64::from(run.full),
+            run.end as u64,
+            u64::from(run.tag),
+            run.number,
+            run.faulty,
+        ]);
     }
 }
 
@@ -52,7 +54,6 @@ pub(crate) fn write_closed(run: Run, report: &mut [u64])
     ensures { report.new ≡ reported closed_words report.old (closed_report run) }
 {
     if report.len() == CLOSED_WORDS {
-        report[0] = run.full as u64;
-        report[1] = run.end as u64;
+        report.copy_from_slice(&[u64::from(run.full), run.end as u64]);
     }
 }

@@ -1,7 +1,7 @@
 -- The refusal of a whole file, row by row of its table, and the record that it names.
 -- Assumes nothing.
 use Prim.Native.Nat.{ℕ, ◌<◌, ◌≤◌}
-use mathlib.Core.Path.{◌≡◌, refl, sym, subst, ◌∙◌}
+use mathlib.Core.Path.{◌≡◌, refl, sym, ap, subst, ◌∙◌}
 use mathlib.Core.Bool.{Bool, true, false, cond, not, ◌||◌, false≢true}
 use mathlib.Core.List.{List, []}
 use native.Mathlib.Decide.{ℕ_discrete}
@@ -10,25 +10,20 @@ use lib.ListN.{length}
 use native.Mathlib.Omega.{arith}
 use borrow.Author.Tests.{ne_eqb, not-false}
 use Rattle.numbers.specs.Lists.{any_below, lowest_below, IsLowest}
-use Rattle.numbers.specs.Refusals.{first_refusal}
+use Rattle.std.specs.Prelude.{Result, Ok, Err}
+use Rattle.numbers.specs.declared.refusal.Refusal.{Refusal}
+use Rattle.numbers.specs.declared.refusal.Refusal.TheVariants.{WrongLength, BadRight, UnpricedNode}
+use Rattle.numbers.specs.Refusals.{first_refusal, answered}
 use Rattle.numbers.proofs.Any.{any_here, any_miss}
-use Rattle.numbers.proofs.Lowest.{lowest_only, lowest_found, lowest_inside, lowest_past, lowest_within}
+use Rattle.numbers.proofs.Lowest.{lowest_only, lowest_found, lowest_within}
 use Rattle.numbers.proofs.Refusals.{is_within, refusal_next, refusal_clear}
 use Rattle.rights.specs.Layout.{record_count, right_at, is_good, is_wrong_length}
 use Rattle.rights.specs.Faults.{is_unpriced, fault_at, any_fault, fault_rows, file_refusal, faulty_record}
 
 module _ (prices : ℕ) (file : List ℕ) where
-  -- the lowest record with a fault, and whether some record has it
+  -- the lowest record with a fault
   abbrev lowest : ℕ → ℕ
   lowest refusal = lowest_below (fault_at prices file refusal) (record_count file)
-
-  pub some_fault : (refusal : ℕ) → lowest refusal < record_count file → any_fault prices file refusal ≡ true
-  unfolding any_fault
-  some_fault refusal inside = lowest_inside (fault_at prices file refusal) (record_count file) inside
-
-  pub no_fault : (refusal : ℕ) → record_count file ≤ lowest refusal → any_fault prices file refusal ≡ false
-  unfolding any_fault
-  no_fault refusal past = lowest_past (fault_at prices file refusal) (record_count file) past
 
   pub file_4 : is_wrong_length (length file) ≡ true → 4 ≡ file_refusal prices file
   unfolding file_refusal fault_rows first_refusal
@@ -166,6 +161,36 @@ module _ (prices : ℕ) (file : List ℕ) where
       let some = any_fault_here refusal number is.inside is.here in
       lowest_only (fault_at prices file refusal) (record_count file) number is
       ∙ sym (lowest_only (fault_at prices file refusal) (record_count file) (faulty_record prices file refusal) (first_faulty refusal low high some))
+
+-- ---- what a call over the whole file answers
+
+module _ (prices : ℕ) (file : List ℕ) where
+  abbrev file_answer : Result (Unit {0}) Refusal
+  file_answer = answered (file_refusal prices file) (faulty_record prices file (file_refusal prices file)) tt
+
+  by_number : {number : ℕ} → number ≡ file_refusal prices file → answered number (faulty_record prices file number) tt ≡ file_answer
+  by_number is = ap (λ (k : ℕ). answered k (faulty_record prices file k) tt) is
+
+  pub wrong_answer : is_wrong_length (length file) ≡ true → Err WrongLength ≡ file_answer
+  wrong_answer wrong = by_number (file_4 prices file wrong)
+
+  module _ (right : is_wrong_length (length file) ≡ false) where
+    pub bad_answer : (number : ℕ) → IsLowest (fault_at prices file 7) (record_count file) number → Err (BadRight number) ≡ file_answer
+    bad_answer number is =
+        ap (λ (k : ℕ). Err (BadRight k)) (only_first prices file 7 number (omega arith) (omega arith) is)
+        ∙ by_number (file_7 prices file right (any_fault_here prices file 7 number is.inside is.here))
+
+    module _ (good : any_below (fault_at prices file 7) (record_count file) ≡ false) where
+      pub unpriced_answer : (number : ℕ) → IsLowest (fault_at prices file 8) (record_count file) number
+          → Err (UnpricedNode number) ≡ file_answer
+      unpriced_answer number is =
+          ap (λ (k : ℕ). Err (UnpricedNode k)) (only_first prices file 8 number (omega arith) (omega arith) is)
+          ∙ by_number
+          (file_8 prices file right (no_fault_to prices file 7 good) (any_fault_here prices file 8 number is.inside is.here))
+
+      pub clear_answer : any_below (fault_at prices file 8) (record_count file) ≡ false → Ok tt ≡ file_answer
+      clear_answer priced =
+          by_number (file_0 prices file right (no_fault_to prices file 7 good) (no_fault_to prices file 8 priced))
 
 -- "An empty file is good": it has the right length, and no record with a fault
 pub empty_length : is_wrong_length 0 ≡ false

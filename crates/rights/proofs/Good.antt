@@ -5,9 +5,9 @@ use mathlib.Core.Path.{◌≡◌}
 use mathlib.Core.Bool.{true, false, not, ◌&&◌}
 use native.Mathlib.Omega.{arith}
 use lib.Dec.{leb, ltb, eqb}
-use borrow.Author.Tests.{leb-true, leb-false, lt-leb, ltb-true}
+use borrow.Author.Tests.{leb-true, lt-leb, ltb-true}
 use Rattle.numbers.specs.Limits.{owners, nodes}
-use Rattle.numbers.proofs.Booleans.{both_true, neither_true}
+use Rattle.numbers.proofs.Booleans.{both_true}
 use Rattle.rights.specs.declared.Right.{Right}
 use Rattle.rights.specs.Layout.{most_size, good_owner, good_nodes, good_kind, good_size, good_days, is_good}
 use Rattle.rights.specs.Faults.{is_unpriced}
@@ -43,13 +43,3 @@ module _ (right : Right) (good : is_good right ≡ true) where
       leb-true _ _
       (both_true (leb 1 right.size) (leb right.size most_size)
       (both_true (good_owner right && good_nodes right && good_kind right) (good_size right) to_size).1).1
-
--- a right that is not unpriced has both its nodes among the prices
-module _ (prices : ℕ) (right : Right) (priced : is_unpriced prices right ≡ false) where
-  pub source_priced : right.source < prices
-  source_priced =
-      leb-false prices right.source (neither_true (leb prices right.source) (leb prices right.sink) priced).0
-
-  pub sink_priced : right.sink < prices
-  sink_priced =
-      leb-false prices right.sink (neither_true (leb prices right.source) (leb prices right.sink) priced).1

@@ -1,6 +1,6 @@
 -- What a read of a record that the file has says of that record.
 -- Assumes nothing.
-use Prim.Native.Nat.{ℕ, ◌<◌, ◌≤◌, ◌%◌}
+use Prim.Native.Nat.{ℕ, zero, suc, ◌<◌, ◌≤◌, ◌%◌}
 use mathlib.Core.Path.{◌≡◌, refl, sym, ap, ◌∙◌}
 use mathlib.Core.Bool.{Bool, true, false, not}
 use mathlib.Core.List.{List}
@@ -8,10 +8,15 @@ use native.Mathlib.Omega.{arith}
 use lib.Dec.{ltb, eqb}
 use lib.ListN.{length}
 use borrow.Author.Tests.{lt-leb, ltb-false}
-use Rattle.numbers.specs.Refusals.{first_refusal}
+use Rattle.std.specs.Prelude.{Result, Ok, Err}
+use Rattle.std.specs.Result.{result_unwrap_or}
+use Rattle.numbers.specs.declared.refusal.Refusal.{Refusal}
+use Rattle.numbers.specs.declared.refusal.Refusal.TheVariants.{BadRight}
+use Rattle.numbers.specs.Refusals.{answer_by, answer_number, answered, first_refusal}
+use Rattle.numbers.proofs.Refusals.{number_answered, refusal_most}
 use Rattle.numbers.proofs.Booleans.{neither_true}
-use Rattle.rights.specs.declared.Reading.{Reading}
-use Rattle.rights.specs.Layout.{record_bytes, most_bytes, record_count, right_at, is_good, is_wrong_length, read_refusal, reading, refused_reading}
+use Rattle.rights.specs.declared.Right.{Right}
+use Rattle.rights.specs.Layout.{Reading, record_bytes, most_bytes, record_count, right_at, is_good, is_wrong_length, read_refusal, reading, refused_reading}
 
 -- a file of good length has at most 4,096 records
 pub records_most : (file : List ℕ) → is_wrong_length (length file) ≡ false → record_count file ≤ 4096
@@ -27,6 +32,17 @@ module _ (file : List ℕ) (number : ℕ) (right : is_wrong_length (length file)
   pub read_bad : is_good (right_at file number) ≡ false → reading file number ≡ refused_reading 7
   unfolding reading read_refusal first_refusal
   read_bad bad = rw (right, lt-leb (record_count file) number inside, bad)
+
+  -- what a read's call answers there
+  pub answered_good : is_good (right_at file number) ≡ true
+      → answered (read_refusal file number) number (right_at file number) ≡ Ok (right_at file number)
+  unfolding read_refusal first_refusal
+  answered_good good = rw (right, lt-leb (record_count file) number inside, good)
+
+  pub answered_bad : is_good (right_at file number) ≡ false
+      → answered (read_refusal file number) number (right_at file number) ≡ Err (BadRight number)
+  unfolding read_refusal first_refusal
+  answered_bad bad = rw (right, lt-leb (record_count file) number inside, bad)
 
   pub accepted_good : (reading file number).refusal ≡ 0 → is_good (right_at file number) ≡ true
   accepted_good accepted = by_test (is_good (right_at file number)) refl
@@ -44,3 +60,34 @@ module _ (file : List ℕ) (number : ℕ) (right : is_wrong_length (length file)
       by_test : (test : Bool) → is_good (right_at file number) ≡ test → is_good (right_at file number) ≡ false
       by_test true e = absurd (refused (ap (λ (r : Reading). r.refusal) (read_good e)))
       by_test false e = e
+
+-- a read is refused by 4 or 7
+pub read_most : (file : List ℕ) (number : ℕ) → read_refusal file number ≤ 7
+unfolding read_refusal
+read_most file number = refusal_most 4 7 _ refl
+
+-- what a read's call answers, in numbers: the read's number, and its right or zeros
+module _ (file : List ℕ) (number : ℕ) where
+  abbrev answer : Result Right Refusal
+  answer = answered (read_refusal file number) number (right_at file number)
+
+  same_number : (reading file number).refusal ≡ read_refusal file number
+  unfolding reading
+  same_number = by_number (read_refusal file number)
+    where
+      by_number : (k : ℕ) → (answer_by k (record { refusal = 0; right = right_at file number }) (refused_reading k)).refusal ≡ k
+      by_number zero = refl
+      by_number (suc n) = refl
+
+  pub read_number : answer_number answer ≡ (reading file number).refusal
+  read_number =
+      number_answered (read_refusal file number) number (right_at file number) (omega (arith, read_most file number)) ∙ sym same_number
+
+  pub read_or_none : result_unwrap_or answer (refused_reading 0).right ≡ (reading file number).right
+  unfolding reading
+  read_or_none = by_number (read_refusal file number)
+    where
+      by_number : (k : ℕ) → result_unwrap_or (answered k number (right_at file number)) (refused_reading 0).right
+          ≡ (answer_by k (record { refusal = 0; right = right_at file number }) (refused_reading k)).right
+      by_number zero = refl
+      by_number (suc n) = refl

@@ -9,9 +9,8 @@ use native.Mathlib.Omega.{arith}
 use lib.Dec.{leb}
 use lib.ListN.{length}
 use borrow.Author.Tests.{leb-true, leb-false}
-use Rattle.rights.specs.declared.reader.Given.{Given}
 use Rattle.rights.specs.Layout.{record_count, is_wrong_length, reading}
-use Rattle.rights.specs.Reader.{given_number, says_none, next_after, IsStep, IsReading, IsWholeReading}
+use Rattle.rights.specs.Reader.{Given, given_number, says_none, next_after, IsStep, IsReading, IsWholeReading}
 use Rattle.rights.proofs.Steps.{step_wrong, step_past, finished_past, finished_inside, moves_inside}
 
 module _ (file : List ℕ) (given : ℕ → Given) (next : ℕ → ℕ) (run : IsReading file given next) where

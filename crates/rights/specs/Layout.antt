@@ -7,7 +7,6 @@ use Rattle.numbers.specs.Words.{word}
 use Rattle.calendar.specs.Year.{days_in_year}
 use Rattle.calendar.specs.declared.OperatingHour.{OperatingHour}
 use Rattle.rights.specs.declared.Right.{Right}
-use Rattle.rights.specs.declared.Reading.{Reading}
 
 -- "Records of 16 bytes, no header"
 abbrev pub record_bytes : ℕ
@@ -81,6 +80,11 @@ unfoldable pub read_refusal : List ℕ → ℕ → ℕ
 read_refusal file number =
     first_refusal
     ((4 if is_wrong_length (length file) || leb (record_count file) number) ∷ (7 if not (is_good (right_at file number))) ∷ [])
+
+-- what a read gives: its refusal number, and the eight fields
+pub record Reading : Type 0 where
+  pub refusal : ℕ
+  pub right : Right
 
 -- a refused read gives zeros beside its number
 abbrev pub refused_reading : ℕ → Reading

@@ -1,32 +1,38 @@
 -- The reader over a lent rights file: what it gives next, and where it then stands.
 -- Assumes nothing.
-use Rattle.std.specs.Prelude.{ℕ, ◌+◌, ◌<◌, ◌≤◌, ◌≡◌, Bool, true, false, not, cond, ◌&&◌, List, leb, eqb, length}
+use Rattle.std.specs.Prelude.{ℕ, ◌+◌, ◌<◌, ◌≤◌, ◌≡◌, Bool, true, false, not, cond, ◌&&◌, List, leb, eqb, length, Option, Some, None, Result, Ok, Err}
 use Rattle.rights.specs.declared.Right.{Right}
-use Rattle.rights.specs.declared.reader.Given.{Given}
-use Rattle.rights.specs.declared.reader.Given.TheVariants.{Record, Bad, WrongLength, Finished}
+use Rattle.numbers.specs.declared.refusal.Refusal.{Refusal}
+use Rattle.numbers.specs.Refusals.{number_in, record_in}
 use Rattle.rights.specs.Layout.{record_count, is_wrong_length, refused_reading, reading}
+
+-- what a reader gives: a record or a refusal, or none
+abbrev pub Given : Type 0
+Given = Option (Result Right Refusal)
 
 -- the paper's number for what a reader gives: a record has none, "gives 7 for a bad one", "Over a file of wrong length it gives only
 -- 4"; "says there is none" has none either
 abbrev pub given_number : Given → ℕ
-given_number (Record right) = 0
-given_number Bad = 7
-given_number WrongLength = 4
-given_number Finished = 0
+given_number (Some (Ok right)) = 0
+given_number (Some (Err refusal)) = number_in refusal
+given_number None = 0
 
 -- the eight fields that it gives; zeros where it gives no record
 abbrev pub given_right : Given → Right
-given_right (Record right) = right
-given_right Bad = (refused_reading 7).right
-given_right WrongLength = (refused_reading 4).right
-given_right Finished = (refused_reading 0).right
+given_right (Some (Ok right)) = right
+given_right (Some (Err refusal)) = (refused_reading (number_in refusal)).right
+given_right None = (refused_reading 0).right
+
+-- the record that it names: "in 7 the record number" is that of the record it stands at
+abbrev pub given_faulty : Given → ℕ
+given_faulty (Some (Ok right)) = 0
+given_faulty (Some (Err refusal)) = record_in refusal
+given_faulty None = 0
 
 -- whether it "says there is none"
 abbrev pub says_none : Given → Bool
-says_none (Record right) = false
-says_none Bad = false
-says_none WrongLength = false
-says_none Finished = true
+says_none (Some given) = false
+says_none None = true
 
 -- "exactly when every record has been given"; a file of wrong length has no records to give
 unfoldable pub is_finished : List ℕ → ℕ → Bool
@@ -41,6 +47,7 @@ pub record IsStep (file : List ℕ) (next : ℕ) (given : Given) (after : ℕ) :
   pub none : says_none given ≡ is_finished file next
   pub number : given_number given ≡ cond (is_finished file next) 0 (reading file next).refusal
   pub right : given_right given ≡ (reading file next).right
+  pub faulty : given_faulty given ≡ cond (eqb (reading file next).refusal 7) next 0
   pub moves : after ≡ next_after file next
 
 -- a reader over a file, step by step: it starts at the first record, as a new reader promises, and each step is one that a

@@ -11,8 +11,7 @@ use lib.IntN.{ℤ}
 use Rattle.numbers.specs.Limits.{owners}
 use Rattle.numbers.proofs.Refusals.{answer_refused}
 use Rattle.calendar.specs.Year.{months_in_year}
-use Rattle.settlement.specs.declared.Settled.{Settled}
-use Rattle.settlement.specs.Events.{Call, hour_call, month_end_call, year_end_call, wants, fund, lines, book_after, Answered}
+use Rattle.settlement.specs.Events.{Settled, Call, hour_call, month_end_call, year_end_call, wants, fund, lines, book_after, Answered}
 use Rattle.settlement.specs.Ledger.{Entry, Asked, book_at, ledger_of, IsLedger}
 use Rattle.settlement.specs.Claim.{IsOwed, IsFund, Shared, Sound, SoundAtEach, Claim}
 use Rattle.settlement.proofs.Shares.{wanted, wants_long, paid_most, demand_of_all, near}

@@ -18,9 +18,8 @@ use Rattle.target.specs.Target.{target}
 use Rattle.target.proofs.Answer.{target_at}
 use Rattle.split.specs.Split.{left}
 use Rattle.settlement.specs.declared.Book.{Book}
-use Rattle.settlement.specs.declared.Settled.{Settled}
 use Rattle.settlement.specs.Book.{month_short}
-use Rattle.settlement.specs.Events.{Call, hour_call, next_targets, target_of, hour_charges, wants, fund, added_to, book_after}
+use Rattle.settlement.specs.Events.{Settled, Call, hour_call, next_targets, target_of, hour_charges, wants, fund, added_to, book_after}
 use Rattle.settlement.specs.Ledger.{Entry, book_at, hour_count, month_end_count, year_end_count, positive_target, credit, hour_credit, charge, collection, of_all}
 use Rattle.settlement.proofs.Shares.{wanted, paid_to, unpaid, wants_long, added_at, unpaid_paid, paid_closes, left_most, hour_wanted, charge_is}
 use Rattle.settlement.proofs.Sane.{Sane}

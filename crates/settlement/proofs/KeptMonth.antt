@@ -18,9 +18,8 @@ use Rattle.numbers.proofs.Booleans.{both_true}
 use Rattle.calendar.specs.Year.{months_in_year, month_end, is_month_end}
 use Rattle.calendar.proofs.MonthEnds.{months_rise}
 use Rattle.settlement.specs.declared.Book.{Book}
-use Rattle.settlement.specs.declared.Settled.{Settled}
 use Rattle.settlement.specs.Book.{month_short, year_short}
-use Rattle.settlement.specs.Events.{month_end_call, wants, fund, paid, unpaid_of, added_to, book_after}
+use Rattle.settlement.specs.Events.{Settled, month_end_call, wants, fund, paid, unpaid_of, added_to, book_after}
 use Rattle.settlement.specs.Ledger.{Entry, book_at, hour_count, month_end_count, year_end_count, positive_target, credit, hour_credit, charge, collection, of_all}
 use Rattle.settlement.proofs.Paying.{unpaid_small, added_total}
 use Rattle.settlement.proofs.Shares.{paid_to, unpaid, left_over, wants_long, added_at, unpaid_paid, paid_closes, left_most}

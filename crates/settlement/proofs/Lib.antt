@@ -1,7 +1,9 @@
 pub mod Accepted
 pub mod Amounts
 pub mod ClaimHolds
+pub mod Closing
 pub mod EntryParts
+pub mod HourTargets
 pub mod HoursAfter
 pub mod Kept
 pub mod KeptHour
@@ -16,6 +18,7 @@ pub mod Refusing
 pub mod RunLaws
 pub mod SameCells
 pub mod Sane
+pub mod Settling
 pub mod Shares
 pub mod SharingOut
 pub mod YearSettles

@@ -34,16 +34,23 @@ added_total cells more all both =
     ∙ ap₂ (λ (m n : ℕ). m + n) (ap total (same_cells cells all)) (ap total (same_cells more both))
 
 -- a split over 64 wants that come to no more than it takes is not refused
-pub not_refused : (wants : List ℕ) (places : ℕ) → length wants ≡ owners → total wants ≤ most_cents → places ≡ owners
-    → split_refusal wants places ≡ 0
-not_refused wants places all small is = accepted wants places (omega arith) (omega arith) small
+pub not_refused : (wants : List ℕ) → length wants ≡ owners → total wants ≤ most_cents → split_refusal wants owners ≡ 0
+not_refused wants all small = accepted wants owners (omega arith) (omega arith) small
 
 -- payments, what is left and what is unpaid, put together
-pub put_together : (fund : ℕ) (wants : List ℕ) (rest : ℕ) (paid unpaid : List ℕ) → rest ≡ left fund wants
+pub put_together : (fund : ℕ) (wants : List ℕ) (demand rest : ℕ) (paid unpaid : List ℕ) → demand ≡ total wants → rest ≡ left fund wants
     → paid ≡ payments fund wants → unpaid ≡ unpaid_of wants paid
-    → ◌≡◌ {A = Paid} (record { left = rest; payments = paid; unpaid = unpaid }) (paid_from fund wants)
-put_together fund wants rest paid unpaid l p u =
-    λ i. record { left = l i; payments = p i; unpaid = (u ∙ ap (unpaid_of wants) p) i }
+    → ◌≡◌ {A = Paid}
+    (record { funding = record { fund = fund; demand = demand }; left = rest; payments = paid; unpaid = unpaid })
+    (paid_from fund wants)
+put_together fund wants demand rest paid unpaid d l p u =
+    λ i.
+    record {
+      funding = record { fund = fund; demand = d i };
+      left = l i;
+      payments = p i;
+      unpaid = (u ∙ ap (unpaid_of wants) p) i;
+    }
 
 -- no payment and nothing left is above what there was
 module _ (fund : ℕ) (wants : List ℕ) where

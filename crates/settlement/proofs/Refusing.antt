@@ -13,21 +13,23 @@ use lib.IntN.{ℤ}
 use borrow.Author.Tests.{leb-false, lt-ltb, eqb-true, ltb-true, not-false}
 use Rattle.numbers.specs.Limits.{owners}
 use Rattle.numbers.specs.Lists.{IsLowest}
-use Rattle.numbers.specs.Refusals.{Row, ◌if◌, first_refusal, answer_by}
-use Rattle.numbers.proofs.Refusals.{is_within, refusal_here, refusal_next, refusal_clear, refusal_append, refusal_rest, refusal_both, refusal_skip, refusal_within, refusal_most, within_append, within_wider, answer_accepted, answer_refused}
+use Rattle.std.specs.Prelude.{Ok, Err}
+use Rattle.numbers.specs.declared.refusal.Refusal.{Refusal}
+use Rattle.numbers.specs.Refusals.{Row, ◌if◌, first_refusal, answer_by, answered, number_in, record_in, refusal_of}
+use Rattle.numbers.proofs.Refusals.{is_within, refusal_here, refusal_next, refusal_clear, refusal_append, refusal_rest, refusal_both, refusal_skip, refusal_within, refusal_most, within_append, within_wider, answer_accepted, answer_refused, answered_err, number_back, record_back}
 use Rattle.numbers.proofs.Booleans.{both_true, neither_true}
 use Rattle.calendar.specs.Year.{hours_in_year, is_month_end}
 use Rattle.rights.specs.Layout.{record_count}
 use Rattle.rights.specs.Faults.{fault_at, any_fault, fault_rows}
-use Rattle.rights.proofs.Faults.{rows_within, fault_from_rows, faulty_none, first_faulty}
+use Rattle.rights.proofs.Faults.{rows_within, fault_from_rows, faulty_none, faulty_other, first_faulty}
 use Rattle.target.specs.Target.{is_wrong_lines, lent_rows, target_refusal}
 use Rattle.target.proofs.Answer.{lent_within, lent_rows_lem}
 use Rattle.settlement.specs.declared.Book.{Book}
 use Rattle.settlement.specs.declared.Event.{Event}
 use Rattle.settlement.specs.declared.Event.TheVariants.{Hour}
-use Rattle.settlement.specs.declared.Settled.{Settled}
+use Rattle.settlement.specs.declared.Funding.{Funding}
 use Rattle.settlement.specs.Book.{is_spoiled}
-use Rattle.settlement.specs.Events.{Call, hour_call, month_end_call, year_end_call, event_of, next_targets, hour_charges, wants, fund, demand, lines, book_after, is_out_of_turn, is_wild_amount, event_rows, input_rows, size_rows, own_rows, refusal, record_of, Answered}
+use Rattle.settlement.specs.Events.{Settled, result_of, Call, hour_call, month_end_call, year_end_call, event_of, next_targets, hour_charges, wants, fund, demand, lines, book_after, is_out_of_turn, is_wild_amount, event_rows, input_rows, size_rows, own_rows, refusal, record_of, Answered}
 
 -- ---- the rows that every event has
 
@@ -118,10 +120,13 @@ module _ (file : List ℕ) (prices : List ℤ) (collected : ℤ) where
       let rest = (refusal_both 4 5 (lent_rows file prices) _ (omega arith) (lent_within file prices) clear).1 in
       (refusal_clear 6 (is_wild_amount collected) faults (omega arith) rest).0
 
-  -- a target call over 64 lines, in an hour of the year, whose number this is
-  module _ (hour : ℕ) (inside : hour < hours_in_year) (number : ℕ) (is : number ≡ target_refusal file prices hour owners) where
+  -- a target call over 64 lines, in an hour of the year
+  module _ (hour : ℕ) (inside : hour < hours_in_year) where
+    abbrev number : ℕ
+    number = target_refusal file prices hour owners
+
     called : number ≡ first_refusal (lent_rows file prices ++ faults)
-    called = is ∙ lent_rows_lem file prices hour owners inside refl
+    called = lent_rows_lem file prices hour owners inside refl
 
     called_lent : (lent ≡ 0 → ⊥) → number ≡ lent
     called_lent some = called ∙ refusal_append (lent_rows file prices) faults some
@@ -235,6 +240,15 @@ never_1 call book places sane is =
     let within = within_wider 4 10 2 10 (own_rows call book) (omega arith) (omega arith) (own_rows_within call book) in
     ⊎_elim (λ none. omega (arith, refusal_next 1 rows sane)) (λ high. omega (arith, refusal_next 1 rows sane)) (refusal_within 2 10 rows within)
 
+-- every number of an event's table
+refusal_most_lem : (call : Call) (book : Book) (places : ℕ) → refusal call book places ≤ 10
+unfolding refusal
+refusal_most_lem call book places =
+    refusal_most 1 10 (event_rows (event_of call) book places ++ own_rows call book)
+    (within_append 1 10 (event_rows (event_of call) book places) (own_rows call book)
+    (within_wider 1 4 1 10 (event_rows (event_of call) book places) (omega arith) (omega arith) (event_within (event_of call) book places))
+    (within_wider 4 10 1 10 (own_rows call book) (omega arith) (omega arith) (own_rows_within call book)))
+
 -- ---- the record number
 
 -- a refusal below 7 names none
@@ -243,6 +257,13 @@ unfolding record_of
 record_none (hour_call file prices collected) number low = faulty_none (length prices) file number low
 record_none month_end_call number low = refl
 record_none year_end_call number low = refl
+
+-- any refusal but 7 and 8 names none
+pub record_other : (call : Call) (number : ℕ) → (number ≡ 7 → ⊥) → (number ≡ 8 → ⊥) → record_of call number ≡ 0
+unfolding record_of
+record_other (hour_call file prices collected) number not_7 not_8 = faulty_other (length prices) file number not_7 not_8
+record_other month_end_call number not_7 not_8 = refl
+record_other year_end_call number not_7 not_8 = refl
 
 -- an hour refused with 7 or 8 names "the lowest one with that fault, all earlier records being free of it"
 pub names_first : (file : List ℕ) (prices : List ℤ) (collected : ℤ) (book : Book) (places k : ℕ) → 7 ≤ k → k ≤ 8
@@ -255,45 +276,56 @@ names_first file prices collected book places k low high is =
 -- ---- what an event answers
 
 module _ (call : Call) (book : Book) (lent : List ℤ) where
-  -- a refused one
-  pub refused_answer : (number faulty : ℕ) (result : Settled) → number ≡ refusal call book (length lent) → (number ≡ 0 → ⊥)
-      → faulty ≡ record_of call number
-      → result ≡ record { refusal = number; faulty = faulty; fund = 0; demand = 0; book = book }
-      → Answered call book lent result lent
-  refused_answer number faulty result e some names is =
+  abbrev table : ℕ
+  table = refusal call book (length lent)
+
+  -- a refused one: what it answers has the number and the record of the table
+  pub refused_answer : {A : Type 0} (number faulty : ℕ) (value : A) {refusal : Refusal} → answered number faulty value ≡ Err refusal
+      → number ≡ table → faulty ≡ record_of call number → Answered call book lent (result_of (Err refusal) book) lent
+  refused_answer number faulty value {refusal} is e names =
       record {
         gives =
-            is
-            ∙ (λ i.
+            λ i.
             record {
-              refusal = e i;
-              faulty = (names ∙ ap (record_of call) e) i;
+              refusal = (back ∙ e) i;
+              faulty = (named ∙ names ∙ ap (record_of call) e) i;
               fund = sym (answer_refused _ (fund call book) 0 none) i;
               demand = sym (answer_refused _ (demand call book) 0 none) i;
               book = sym (answer_refused _ (book_after call book) book none) i;
-            });
+            };
         writes = sym (answer_refused _ (lines call book) lent none);
       }
     where
-      none : refusal call book (length lent) ≡ 0 → ⊥
-      none z = some (e ∙ z)
+      some : (0 < number) × (refusal ≡ refusal_of number faulty)
+      some = answered_err number faulty value is
+
+      within : number ≤ 11
+      within = omega (arith, e, refusal_most_lem call book (length lent))
+
+      back : number_in refusal ≡ number
+      back = ap number_in some.1 ∙ number_back number faulty some.0 within
+
+      named : record_in refusal ≡ faulty
+      named = ap record_in some.1 ∙ record_back number faulty within (λ not_7 not_8. names ∙ record_other call number not_7 not_8)
+
+      none : table ≡ 0 → ⊥
+      none z = omega (arith, some.0, e ∙ z)
 
   -- an accepted one
-  pub accepted_answer : (result : Settled) (after : List ℤ) → refusal call book (length lent) ≡ 0
-      → result ≡ record { refusal = 0; faulty = 0; fund = fund call book; demand = demand call book; book = book_after call book }
-      → after ≡ lines call book → Answered call book lent result after
-  accepted_answer result after z is written =
+  pub accepted_answer : (funding : Funding) (after_book : Book) (after : List ℤ) → refusal call book (length lent) ≡ 0
+      → funding ≡ record { fund = fund call book; demand = demand call book } → after_book ≡ book_after call book
+      → after ≡ lines call book → Answered call book lent (result_of (Ok funding) after_book) after
+  accepted_answer funding after_book after z f b written =
       record {
         gives =
-            is
-            ∙ (λ i.
+            λ i.
             record {
               refusal = sym z i;
               faulty = sym (record_none call (refusal call book (length lent)) (omega (arith, z))) i;
-              fund = sym (answer_accepted _ (fund call book) 0 z) i;
-              demand = sym (answer_accepted _ (demand call book) 0 z) i;
-              book = sym (answer_accepted _ (book_after call book) book z) i;
-            });
+              fund = (ap (λ (x : Funding). x.fund) f ∙ sym (answer_accepted _ (fund call book) 0 z)) i;
+              demand = (ap (λ (x : Funding). x.demand) f ∙ sym (answer_accepted _ (demand call book) 0 z)) i;
+              book = (b ∙ sym (answer_accepted _ (book_after call book) book z)) i;
+            };
         writes = written ∙ sym (answer_accepted _ (lines call book) lent z);
       }
 

@@ -1,7 +1,7 @@
 -- An hour shared out from its targets: refused by its size, or its shares.
 -- Assumes nothing.
 use Prim.Native.Nat.{ℕ, ◌+◌, ◌≤◌, ◌<◌}
-use mathlib.Core.Path.{◌≡◌, refl, sym, ap, ap₂, ◌∙◌}
+use mathlib.Core.Path.{◌≡◌, sym, ap, ap₂, ◌∙◌}
 use mathlib.Core.List.{List}
 use native.Mathlib.Omega.{arith}
 use lib.ListN.{length}
@@ -9,7 +9,7 @@ use lib.IntN.{ℤ}
 use borrow.Author.Tests.{ltb-false, lt-ltb, le-ltb}
 use Rattle.numbers.specs.Limits.{owners, most_cents}
 use Rattle.numbers.specs.Lists.{total}
-use Rattle.numbers.specs.Refusals.{first_refusal}
+use Rattle.numbers.specs.Refusals.{answered, first_refusal}
 use Rattle.numbers.proofs.Counts.{length_list_below}
 use Rattle.numbers.proofs.Refusals.{refusal_none, refusal_here, refusal_next, refusal_clear}
 use Rattle.settlement.specs.declared.Book.{Book}
@@ -17,7 +17,7 @@ use Rattle.settlement.specs.declared.payment.Paid.{Paid}
 use Rattle.settlement.specs.declared.payment.Shares.{Shares}
 use Rattle.settlement.specs.Book.{all_shortfalls}
 use Rattle.settlement.specs.Events.{hour_wants, hour_charges, hour_fund, added_to, hour_book, size_rows}
-use Rattle.settlement.specs.InnerContracts.{paid_from, shares_of, HourShares}
+use Rattle.settlement.specs.InnerContracts.{paid_from, shares_of}
 
 pub wants_length : (targets : List ℤ) → length (hour_wants targets) ≡ owners
 unfolding hour_wants
@@ -71,40 +71,30 @@ module _ (book : Book) (collected : ℕ) (targets : List ℤ) where
   abbrev number : ℕ
   number = size book (hour_fund collected targets) (hour_wants targets) (hour_charges targets)
 
-  pub refused_shares : (result : Shares) (k : ℕ) → result.refusal ≡ k → (k ≡ 0 → ⊥) → number ≡ k
-      → HourShares book collected targets result
-  refused_shares result k is some e =
-      record { number = is ∙ sym e; accepted = λ z. absurd (some (sym is ∙ z)) }
-
-  pub accepted_shares : (result : Shares) → result ≡ shares_of book collected targets → number ≡ 0
-      → HourShares book collected targets result
-  accepted_shares result is clear = rw is (record { number = sym clear; accepted = λ _. refl })
+  -- what is answered by the number
+  pub shared : (k : ℕ) → number ≡ k
+      → answered k 0 (shares_of book collected targets) ≡ answered number 0 (shares_of book collected targets)
+  shared k e = ap (λ (n : ℕ). answered n 0 (shares_of book collected targets)) (sym e)
 
   -- from the parts that the code has worked out
-  module _ (wants : List ℕ) (w : wants ≡ hour_wants targets) (charges : ℕ) (c : charges ≡ hour_charges targets) (paid : Paid) (p : paid ≡ paid_from (collected + charges) wants) (next : List ℕ) (n : next ≡ added_to book.monthshort paid.unpaid) where
+  module _ {wants : List ℕ} {charges : ℕ} {paid : Paid} {next : List ℕ} (w : wants ≡ hour_wants targets) (c : charges ≡ hour_charges targets) (p : paid ≡ paid_from (collected + charges) wants) (n : next ≡ added_to book.monthshort paid.unpaid) where
     paid_is : paid ≡ paid_from (hour_fund collected targets) (hour_wants targets)
     paid_is = p ∙ ap₂ (λ (x : ℕ) (ws : List ℕ). paid_from (collected + x) ws) c w
 
-    pub next_is : next ≡ (shares_of book collected targets).monthshort
+    next_is : next ≡ (shares_of book collected targets).monthshort
     next_is = n ∙ ap (λ (x : Paid). added_to book.monthshort x.unpaid) paid_is
 
-    pub shares_are : (sum : ℕ) → sum ≡ total (hour_wants targets)
-        → ◌≡◌ {A = Shares}
-        (record {
-          refusal = 0;
-          fund = collected + charges;
-          demand = sum;
-          left = paid.left;
-          payments = paid.payments;
-          monthshort = next;
-        })
+    -- all shortfalls after the hour
+    pub carried : total next + total book.yearshort ≡ all_shortfalls (hour_book book (hour_fund collected targets) (hour_wants targets))
+    carried = ap (λ (cells : List ℕ). total cells + total book.yearshort) next_is
+
+    pub shares_are : ◌≡◌ {A = Shares}
+        (record { funding = paid.funding; left = paid.left; payments = paid.payments; monthshort = next })
         (shares_of book collected targets)
-    shares_are sum s =
+    shares_are =
         λ i.
         record {
-          refusal = 0;
-          fund = collected + c i;
-          demand = s i;
+          funding = (paid_is i).funding;
           left = (paid_is i).left;
           payments = (paid_is i).payments;
           monthshort = next_is i;

@@ -1,10 +1,11 @@
 -- The three events of a book: their wants, F, D, lines, the book after them, when they are due, and their refusals.
 -- Assumes nothing.
-use Rattle.std.specs.Prelude.{ℕ, ◌+◌, ◌-◌, ◌≡◌, Bool, true, not, ◌||◌, List, [], ◌∷◌, ◌++◌, leb, ltb, length, get_or, replicate, ℤ, pos, negsuc}
+use Rattle.std.specs.Prelude.{ℕ, ◌+◌, ◌-◌, ◌≡◌, Bool, true, not, ◌||◌, List, [], ◌∷◌, ◌++◌, leb, ltb, length, get_or, replicate, ℤ, pos, negsuc, Result, Ok, Err}
 use Rattle.std.specs.Int.Signed.{lt_z}
 use Rattle.numbers.specs.Limits.{owners, most_cents}
 use Rattle.numbers.specs.Lists.{total, list_below}
-use Rattle.numbers.specs.Refusals.{Row, ◌if◌, first_refusal, answer_by}
+use Rattle.numbers.specs.declared.refusal.Refusal.{Refusal}
+use Rattle.numbers.specs.Refusals.{Row, ◌if◌, first_refusal, answer_by, number_in, record_in}
 use Rattle.numbers.specs.Signs.{positive, negative}
 use Rattle.calendar.specs.Year.{hours_in_year, months_in_year, is_month_end}
 use Rattle.rights.specs.Faults.{fault_rows, faulty_record}
@@ -13,7 +14,8 @@ use Rattle.target.specs.Target.{is_wrong_lines, lent_rows, targets}
 use Rattle.settlement.specs.declared.Book.{Book}
 use Rattle.settlement.specs.declared.Event.{Event}
 use Rattle.settlement.specs.declared.Event.TheVariants.{Hour, MonthEnd, YearEnd}
-use Rattle.settlement.specs.declared.Settled.{Settled}
+use Rattle.settlement.specs.declared.Funding.{Funding}
+use Rattle.settlement.specs.declared.Settled.{Settled as Given}
 use Rattle.settlement.specs.Book.{most_collected, all_shortfalls, is_spoiled}
 
 -- a call: an hour with its rights, prices and the amount collected; a month end; a year end
@@ -208,6 +210,23 @@ record_of month_end_call number = 0
 record_of year_end_call number = 0
 
 -- ---- what an event gives, for any book and any lent lines
+
+-- "A result has the refusal number (0 if accepted), a record number, F, D and the book"
+pub record Settled : Type 0 where
+  pub refusal : ℕ
+  pub faulty : ℕ
+  pub fund : ℕ
+  pub demand : ℕ
+  pub book : Book
+
+-- the result of a call that answers F and D, or a refusal, and gives a book
+abbrev pub result_of : Result Funding Refusal → Book → Settled
+result_of (Ok funding) book = record { refusal = 0; faulty = 0; fund = funding.fund; demand = funding.demand; book = book }
+result_of (Err refusal) book =
+    record { refusal = number_in refusal; faulty = record_in refusal; fund = 0; demand = 0; book = book }
+
+abbrev pub in_numbers : Given → Settled
+in_numbers given = result_of given.outcome given.book
 
 -- "the refusal number (0 if accepted), a record number, F, D and the book; when refused, the book is the one given, F and D are 0, and the
 -- record number is 0 except in 7 and 8"

@@ -5,36 +5,35 @@ ghost use Rattle.settlement.specs.Events.{book_after_hour, book_after_month, boo
 use crate::Book;
 use numbers::OWNERS;
 
-// One hour more: its month cells, and what it leaves.
-pub(crate) fn hour(mut book: Book, cells: [u64; OWNERS], rest: u64) -> Book
-    requires { (book.hours + 1 < 2 ^ 64) × (book.monthsurplus + rest < 2 ^ 64) }
-    ensures { result ≡ book_after_hour book cells rest }
-{
-    book.hours += 1;
-    book.monthshort = cells;
-    book.monthsurplus += rest;
-    book
-}
+impl Book {
+    // One hour more: its month cells, and what it leaves.
+    pub(crate) fn after_hour(&mut self, cells: [u64; OWNERS], rest: u64)
+        requires { (self.old.hours + 1 < 2 ^ 64) × (self.old.monthsurplus + rest < 2 ^ 64) }
+        ensures { self.new ≡ book_after_hour self.old cells rest }
+    {
+        self.hours += 1;
+        self.monthshort = cells;
+        self.monthsurplus += rest;
+    }
 
-// One month more: its unpaid wants in the year cells, what it leaves in the year surplus, and no month cells.
-pub(crate) fn month(mut book: Book, cells: [u64; OWNERS], rest: u64) -> Book
-    requires { (book.months + 1 < 2 ^ 64) × (rest ≤ book.monthsurplus) × (book.monthsurplus + book.yearsurplus < 2 ^ 64) }
-    ensures { result ≡ book_after_month book cells rest }
-{
-    book.months += 1;
-    book.monthshort = [0; OWNERS];
-    book.yearshort = cells;
-    book.yearsurplus += rest;
-    book.monthsurplus = 0;
-    book
-}
+    // One month more: its unpaid wants in the year cells, what it leaves in the year surplus, and no month cells.
+    pub(crate) fn after_month(&mut self, cells: [u64; OWNERS], rest: u64)
+        requires { (self.old.months + 1 < 2 ^ 64) × (rest ≤ self.old.monthsurplus) × (self.old.monthsurplus + self.old.yearsurplus < 2 ^ 64) }
+        ensures { self.new ≡ book_after_month self.old cells rest }
+    {
+        self.months += 1;
+        self.monthshort = [0; OWNERS];
+        self.yearshort = cells;
+        self.yearsurplus += rest;
+        self.monthsurplus = 0;
+    }
 
-// The year is ended: its unpaid wants and what it leaves stay.
-pub(crate) fn year(mut book: Book, unpaid: [u64; OWNERS], rest: u64) -> Book
-    ensures { result ≡ book_after_year book unpaid rest }
-{
-    book.ended = true;
-    book.yearshort = unpaid;
-    book.yearsurplus = rest;
-    book
+    // The year is ended: its unpaid wants and what it leaves stay.
+    pub(crate) fn after_year(&mut self, unpaid: [u64; OWNERS], rest: u64)
+        ensures { self.new ≡ book_after_year self.old unpaid rest }
+    {
+        self.ended = true;
+        self.yearshort = unpaid;
+        self.yearsurplus = rest;
+    }
 }

@@ -1,35 +1,22 @@
 // The cells of all owners: what stays unpaid, and what is added.
-ghost use Rattle.std.specs.Prelude.{ℕ, ◌≤◌, ◌≡◌, get_or};
-ghost use Rattle.numbers.specs.Limits.{most_cents};
-ghost use Rattle.numbers.specs.Lists.{total};
+ghost use Rattle.std.specs.Prelude.{ℕ, ◌+◌, ◌^◌, ◌<◌, ◌≤◌, ◌≡◌, get_or};
 ghost use Rattle.settlement.specs.Events.{added_to, unpaid_of};
 
 use numbers::OWNERS;
+use std::array;
 
 // What is unpaid of each want.
-pub(crate) fn unpaid_of(wants: [u64; OWNERS], payments: [u64; OWNERS]) -> [u64; OWNERS]
-    requires { (i : ℕ) → get_or payments i 0 ≤ get_or wants i 0 }
-    ensures { result ≡ unpaid_of wants payments }
+pub(crate) fn unpaid_of(wants: &[u64; OWNERS], payments: &[u64; OWNERS]) -> [u64; OWNERS]
+    requires { (i : ℕ) → get_or payments.now i 0 ≤ get_or wants.now i 0 }
+    ensures { result ≡ unpaid_of wants.now payments.now }
 {
-    let mut unpaid = [0u64; OWNERS];
-    let mut i = 0;
-    while i < OWNERS {
-        unpaid[i] = wants[i] - payments[i];
-        i += 1;
-    }
-    unpaid
+    array::from_fn(|owner| wants[owner] - payments[owner])
 }
 
 // The cells with what is unpaid added to each.
-pub(crate) fn added(cells: [u64; OWNERS], unpaid: [u64; OWNERS]) -> [u64; OWNERS]
-    requires { (total cells ≤ most_cents) × (total unpaid ≤ most_cents) }
-    ensures { result ≡ added_to cells unpaid }
+pub(crate) fn added(cells: &[u64; OWNERS], unpaid: &[u64; OWNERS]) -> [u64; OWNERS]
+    requires { (i : ℕ) → get_or cells.now i 0 + get_or unpaid.now i 0 < 2 ^ 64 }
+    ensures { result ≡ added_to cells.now unpaid.now }
 {
-    let mut after = [0u64; OWNERS];
-    let mut i = 0;
-    while i < OWNERS {
-        after[i] = cells[i] + unpaid[i];
-        i += 1;
-    }
-    after
+    array::from_fn(|owner| cells[owner] + unpaid[owner])
 }

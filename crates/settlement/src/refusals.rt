@@ -1,35 +1,35 @@
 // The refusals that every event has, and whose turn it is.
 ghost use Rattle.std.specs.Prelude.{◌≡◌};
-ghost use Rattle.numbers.specs.Refusals.{first_refusal};
+ghost use Rattle.numbers.specs.Refusals.{answered, first_refusal};
 ghost use Rattle.settlement.specs.Events.{event_rows, is_out_of_turn};
 
 use crate::{Book, Event, spoiled};
-use numbers::OWNERS;
+use numbers::{OWNERS, Refusal};
 
-// The rows that every event has, 1 to 4, or 0.
+// The rows that every event has, 1 to 4.
 #[tactic(auto, unfolding(crate::specs::Events::event_rows, numbers::specs::Refusals::first_refusal))]
-pub(crate) fn of_event(book: Book, event: Event, places: usize) -> u8
-    ensures { result ≡ first_refusal (event_rows event book places) }
+pub(crate) fn of_event(book: &Book, event: Event, places: usize) -> Result<(), Refusal>
+    ensures { result ≡ answered (first_refusal (event_rows event book.now places)) 0 tt }
 {
     if spoiled::is_spoiled(book) {
-        return 1;
+        return Err(Refusal::SpoiledBook);
     }
     if book.ended {
-        return 2;
+        return Err(Refusal::YearOver);
     }
     if is_out_of_turn(book, event) {
-        return 3;
+        return Err(Refusal::OutOfTurn);
     }
     if places != OWNERS {
-        return 4;
+        return Err(Refusal::WrongLength);
     }
-    0
+    Ok(())
 }
 
 // Whether it is not the event's turn: a month end first, then the hours, and the year end last.
 #[tactic(auto, unfolding(crate::specs::Events::is_out_of_turn))]
-pub(crate) fn is_out_of_turn(book: Book, event: Event) -> bool
-    ensures { result ≡ is_out_of_turn event book }
+pub(crate) fn is_out_of_turn(book: &Book, event: Event) -> bool
+    ensures { result ≡ is_out_of_turn event book.now }
 {
     let closing = calendar::is_month_end(book.hours, book.months);
     match event {

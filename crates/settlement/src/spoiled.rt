@@ -8,16 +8,15 @@ use crate::Book;
 const MOST_SURPLUS: u64 = crate::MOST_COLLECTED as u64 + numbers::MOST_CENTS;
 
 // Refusal 1: by the counts and the mark, by the shortfalls, or by the surpluses.
-pub(crate) fn is_spoiled(book: Book) -> bool
-    ensures { result ≡ is_spoiled book }
+pub(crate) fn is_spoiled(book: &Book) -> bool
+    ensures { result ≡ is_spoiled book.now }
 {
     if is_out_of_step(book.hours, book.months, book.ended) {
         return true;
     }
-    let month = book.monthshort;
-    let year = book.yearshort;
     let cap = numbers::MOST_CENTS + 1;
-    if numbers::capped_total(cap, numbers::capped_total(cap, 0, &month), &year) == cap {
+    let short = numbers::capped_total(cap, 0, &book.monthshort);
+    if numbers::capped_total(cap, short, &book.yearshort) == cap {
         return true;
     }
     numbers::is_sum_above(

@@ -11,8 +11,7 @@ use Rattle.numbers.specs.Limits.{owners}
 use Rattle.numbers.specs.Refusals.{answer_by}
 use Rattle.numbers.proofs.Refusals.{answer_accepted, answer_refused}
 use Rattle.settlement.specs.declared.Book.{Book}
-use Rattle.settlement.specs.declared.Settled.{Settled}
-use Rattle.settlement.specs.Events.{Call, event_of, is_due, refusal, record_of, lines, book_after, Answered}
+use Rattle.settlement.specs.Events.{Settled, Call, event_of, is_due, refusal, record_of, lines, book_after, Answered}
 use Rattle.settlement.proofs.Refusing.{gives_number, gives_record, gives_book_lem}
 use Rattle.statement_text.specs.Buffer.{written, end_after, text_after}
 use Rattle.statement_text.specs.InnerContracts.{Wrote}

@@ -10,8 +10,7 @@ use lib.Dec.{eqb}
 use lib.IntN.{ℤ}
 use borrow.Author.Tests.{ne_eqb}
 use Rattle.numbers.specs.Limits.{owners}
-use Rattle.settlement.specs.declared.Settled.{Settled}
-use Rattle.settlement.specs.Events.{Call, hour_call, month_end_call, year_end_call, Answered}
+use Rattle.settlement.specs.Events.{Settled, Call, hour_call, month_end_call, year_end_call, Answered}
 use Rattle.settlement.specs.Ledger.{Entry, book_at, IsLedger, hour_count, month_end_count, year_end_count, sum_over, credit}
 use Rattle.settlement.proofs.EntryParts.{Parts, over_next, accepted_parts}
 use Rattle.settlement.proofs.RunLaws.{written_long, credit_line, year_open}

@@ -2,11 +2,12 @@
 -- Assumes nothing.
 use Prim.Native.Nat.{ℕ, ◌+◌, ◌≤◌}
 use mathlib.Core.Path.{◌≡◌, refl, sym, ap, ◌∙◌}
-use mathlib.Core.Bool.{Bool, true, false, cond}
+use mathlib.Core.Bool.{Bool, true, false, cond, not}
 use mathlib.Core.List.{List}
 use native.Mathlib.Omega.{arith}
 use lib.ListN.{length}
-use borrow.Author.Tests.{ltb-true, ltb-false}
+use lib.Dec.{leb}
+use borrow.Author.Tests.{ltb-true, ltb-false, leb-true, leb-false, lt-ltb, le-ltb}
 use Rattle.settlement.specs.declared.Book.{Book}
 use Rattle.settlement.specs.Events.{month_end_call, year_end_call}
 use Rattle.statement_text.specs.Buffer.{end_after}
@@ -42,6 +43,11 @@ reached_next part next {run = run} {result = result} reached inside made =
     }
 
 -- ---- a step
+
+-- too little room, where the buffer was asked for that much
+pub lacks_said : {has : Bool} (room bytes at : ℕ) → has ≡ leb (at + room) bytes → not has ≡ lacks_room room bytes at
+lacks_said {has = true} room bytes at is = sym (le-ltb bytes (at + room) (leb-true _ _ (sym is)))
+lacks_said {has = false} room bytes at is = sym (lt-ltb bytes (at + room) (leb-false _ _ (sym is)))
 
 module _ (file block : List ℕ) (run : Run) (before : List ℕ) where
   abbrev lacks : Bool

@@ -3,13 +3,12 @@
 use Rattle.std.specs.Prelude.{ℕ, ◌+◌, ◌≤◌, ◌≡◌, List, [], ℤ}
 use Rattle.numbers.specs.Limits.{owners}
 use Rattle.numbers.specs.Refusals.{answer_by}
-use Rattle.settlement.specs.declared.Settled.{Settled}
-use Rattle.settlement.specs.Events.{Call, month_end_call, year_end_call}
+use Rattle.settlement.specs.declared.End.{End}
+use Rattle.settlement.specs.declared.End.TheVariants.{Month, Year}
+use Rattle.settlement.specs.Events.{Settled}
 use Rattle.statement_text.specs.InnerContracts.{Wrote}
 use Rattle.statement_text.specs.Text.{text_of, event_lines, event_room}
 use Rattle.settlement_run.specs.declared.Run.{Run}
-use Rattle.settlement_run.specs.declared.events.End.{End}
-use Rattle.settlement_run.specs.declared.events.End.TheVariants.{Month, Year}
 use Rattle.settlement_run.specs.Run.{Part, goes_on, stops}
 use Rattle.settlement_run.specs.Calls.{standing, run_at}
 
@@ -38,11 +37,7 @@ result_part tag number settled lines =
 abbrev pub refused_by : Run → ℕ → ℕ → ℕ → ℕ → Run
 refused_by run refusal tag number faulty = run_at (stops [] refusal tag number faulty run.book) run.full run.end
 
--- the call of a month end or a year end, and its number beside the lines with so many months closed
-abbrev pub end_call : End → Call
-end_call Month = month_end_call
-end_call Year = year_end_call
-
+-- the number of a month end or a year end beside the lines, with so many months closed
 abbrev pub end_number : End → ℕ → ℕ
 end_number Month months = months
 end_number Year months = 0

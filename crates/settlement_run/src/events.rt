@@ -1,15 +1,16 @@
 // The events of a block, on a run with room for their lines: each is settled on the run's book, and its lines are appended.
 ghost use Rattle.std.specs.Prelude.{◌+◌, ◌≤◌, ◌≡◌, length};
 ghost use Rattle.numbers.specs.Limits.{owners};
-ghost use Rattle.settlement.specs.Events.{Answered, event_of};
+ghost use Rattle.settlement.specs.Ends.{end_call};
+ghost use Rattle.settlement.specs.Events.{in_numbers};
 ghost use Rattle.statement_text.specs.Text.{event_room};
 ghost use Rattle.settlement_run.specs.Run.{and_then, hour_part, if_due, tag_of};
 ghost use Rattle.settlement_run.specs.Calls.{standing};
-ghost use Rattle.settlement_run.specs.InnerContracts.{Appended, end_call, end_number, refused_by, result_part};
+ghost use Rattle.settlement_run.specs.InnerContracts.{Appended, end_number, refused_by, result_part};
 
 use crate::Run;
 use numbers::{NODES, OWNERS};
-use settlement::{Book, Event, Settled};
+use settlement::{End, Settled};
 
 // The next hour, from its bytes.
 pub(crate) fn settle_hour(run: Run, rights: &[u8], block: &[u8], text: &mut [u8]) -> Run
@@ -18,20 +19,14 @@ pub(crate) fn settle_hour(run: Run, rights: &[u8], block: &[u8], text: &mut [u8]
 {
     let book = run.book;
     let mut prices = [0i32; NODES];
-    let decoded = hour_block::decode(block, &mut prices);
-    if decoded.refusal != 0 {
-        return with_refusal(run, decoded.refusal, b'H', book.hours, 0);
+    match hour_block::decode(block, &mut prices) {
+        Ok(amount) => {
+            let mut lines = [0i64; OWNERS];
+            let settled = book.hour(rights, &prices, amount, &mut lines);
+            print_event(run, b'H', book.hours, settled, &lines, text)
+        }
+        Err(refusal) => with_refusal(run, refusal.number(), b'H', book.hours, 0),
     }
-    let mut lines = [0i64; OWNERS];
-    let settled = book.hour(rights, &prices, decoded.amount, &mut lines);
-    print_event(run, b'H', book.hours, settled, &lines, text)
-}
-
-// The month end or the year end.
-#[derive(Clone, Copy)]
-pub(crate) enum End {
-    Month,
-    Year,
 }
 
 // The month end or the year end, where it is due.
@@ -43,31 +38,13 @@ pub(crate) fn close_if_due(run: Run, end: End, text: &mut [u8]) -> Run
         return run;
     }
     let book = run.book;
-    if !book.is_due(event_of(end)) {
+    if !book.is_due(end.into()) {
         return with_refusal(run, 0, 0, 0, 0);
     }
     let mut lines = [0i64; OWNERS];
-    let settled = settle_end(book, end, &mut lines);
+    let settled = book.close(end, &mut lines);
     let number = number_of(end, book.months);
     print_event(run, tag_of(end), number, settled, &lines, text)
-}
-
-fn settle_end(book: Book, end: End, lines: &mut [i64]) -> Settled
-    ensures { Answered (end_call end) book lines.old result lines.new }
-{
-    match end {
-        End::Month => book.month_end(lines),
-        End::Year => book.year_end(lines),
-    }
-}
-
-fn event_of(end: End) -> Event
-    ensures { result ≡ event_of (end_call end) }
-{
-    match end {
-        End::Month => Event::MonthEnd,
-        End::Year => Event::YearEnd,
-    }
 }
 
 // An `M` with the month's number, a `Y` with 0.
@@ -99,16 +76,16 @@ fn print_event(
     text: &mut [u8],
 ) -> Run
     requires { (run.end + event_room owners ≤ length text.old) × (length lines.now ≡ owners) }
-    ensures { Appended (result_part tag number settled lines.now) run text.old result text.new }
+    ensures { Appended (result_part tag number (in_numbers settled) lines.now) run text.old result text.new }
 {
-    let book = settled.book;
-    run.book = book;
-    if settled.refusal != 0 {
-        return with_refusal(run, settled.refusal, tag, number, settled.faulty);
+    run.book = settled.book;
+    match settled.outcome {
+        Ok(_) => {
+            run.end = statement_text::write_event(tag, number, lines, text, run.end);
+            with_refusal(run, 0, 0, 0, 0)
+        }
+        Err(refusal) => with_refusal(run, refusal.number(), tag, number, refusal.record()),
     }
-    let at = run.end;
-    run.end = statement_text::write_event(tag, number, lines, text, at);
-    with_refusal(run, 0, 0, 0, 0)
 }
 
 // The run with this refusal of this event, all 0 where it goes on.

@@ -6,11 +6,12 @@ ghost use Rattle.std.specs.Prelude.{◌≡◌};
 ghost use Rattle.statement_text.specs.Buffer.{end_after, text_after};
 ghost use Rattle.statement_text.specs.Sentence.{sentence_room};
 ghost use Rattle.statement_text.specs.Text.{line_room};
-ghost use Rattle.settlement_run.specs.Calls.{begun, closed, lacks_room, last_text, standing, stepped_run, stepped_text};
+ghost use Rattle.settlement_run.specs.Calls.{begun, closed, last_text, standing, stepped_run, stepped_text};
 ghost use Rattle.settlement_run.specs.Run.{explanation, opening_refusal};
 
-use events::End;
-use settlement::Book;
+use numbers::Refusal;
+use settlement::{Book, End};
+use statement_text::{LINE_ROOM, has_room};
 
 mod events;
 
@@ -48,13 +49,11 @@ pub fn opening(readable: bool, bytes: usize) -> Run
 fn opening_refusal(readable: bool, bytes: usize) -> u8
     ensures { result ≡ opening_refusal readable bytes }
 {
-    if !readable {
-        return 4;
+    if readable & (bytes <= rights::FILE_BYTES) {
+        0
+    } else {
+        Refusal::WrongLength.number()
     }
-    if rights::FILE_BYTES < bytes {
-        return 4;
-    }
-    0
 }
 
 // One block: the hour, and the month end and the year end where they are due. Appends their lines; a run that has stopped stays as it is.
@@ -62,7 +61,7 @@ pub fn step(mut run: Run, rights: &[u8], block: &[u8], text: &mut [u8]) -> Run
     ensures value { result ≡ stepped_run rights.now block.now run text.old }
     ensures text_after { text.new ≡ stepped_text rights.now block.now run text.old }
 {
-    run.full = lacks_room(STEP_ROOM, text.len(), run.end);
+    run.full = !has_room(text.len(), run.end, STEP_ROOM);
     if run.full {
         return run;
     }
@@ -79,7 +78,7 @@ pub fn closing(mut run: Run, text: &mut [u8]) -> Run
     ensures value { result ≡ closed run text.old }
     ensures text_after { text.new ≡ text_after line_room (last_text run) text.old run.end }
 {
-    run.full = lacks_room(statement_text::LINE_ROOM, text.len(), run.end);
+    run.full = !has_room(text.len(), run.end, LINE_ROOM);
     let at = run.end;
     let refusal = run.refusal;
     if refusal != 0 {
@@ -97,13 +96,4 @@ pub fn explain(run: Run, text: &mut [u8]) -> usize
     ensures text_after { text.new ≡ text_after sentence_room (explanation (standing run)) text.old 0 }
 {
     statement_text::write_sentence(run.tag, run.number, run.refusal, run.faulty, text, 0)
-}
-
-fn lacks_room(room: usize, bytes: usize, at: usize) -> bool
-    ensures { result ≡ lacks_room room bytes at }
-{
-    if bytes < at {
-        return true;
-    }
-    bytes - at < room
 }

@@ -9,13 +9,15 @@ use mathlib.Core.Path.{◌≡◌, refl, sym, ap, ◌∙◌}
 use native.Mathlib.Nat.{eq-zero-or-pos, min-eq_left, le_trans}
 use native.Mathlib.Omega.{arith}
 use lib.Dec.{ltb}
+use Rattle.std.proofs.lemmas.Bool.{cases_lt}
+use Rattle.std.proofs.lemmas.Bool.Decides.{nat_tests}
 use lib.ListN.{length, get_or}
-use borrow.Author.Tests.{ltb-true, lt-ltb, le-leb, lt-leb}
+use borrow.Author.Tests.{ltb-true, lt-ltb}
 use Rattle.numbers.specs.Lists.{total, count_below}
 use Rattle.numbers.proofs.Counts.{one_if_mono, count_le, count_mono, length_list_below, get_or_list_below, get_or_beyond, list_below_get_or, list_below_ext, total_add, total_count, rank}
 use Rattle.split.specs.InnerContracts.{ahead_by}
 use Rattle.split.specs.Split.{WithinACent, want, whole_part, remainder, unpaid_cents, is_ahead, gets_odd_cent, payment, payments, left}
-use Rattle.split.proofs.Order.{below_or_not, ahead_larger, ahead_tie, ahead_irreflexive, ahead_transitive, ahead_one_way}
+use Rattle.split.proofs.Order.{ahead_larger, ahead_tie, ahead_irreflexive, ahead_transitive, ahead_one_way}
 use Rattle.split.proofs.Shares.{whole_and_remainder, remainder_small, whole_and_unpaid, unpaid_le_remainders, whole_le_want, whole_lt_want}
 
 module _ (fund : ℕ) (wants : List ℕ) where
@@ -30,26 +32,28 @@ module _ (fund : ℕ) (wants : List ℕ) where
   -- with enough in the fund, each is paid its want
   pub paid_in_full : total wants ≤ fund → (i : ℕ) → payment fund wants i ≡ want wants i
   unfolding payment
-  paid_in_full enough i =
-      ap (λ (t : Bool). cond t (want wants i) (whole_part fund wants i + cond (gets_odd_cent fund wants i) 1 0)) (le-leb _ _ enough)
+  paid_in_full enough i = grind (arith, nat_tests)
 
   -- else the whole part of its share, and perhaps an odd cent
   pub paid_short : fund < total wants → (i : ℕ)
       → payment fund wants i ≡ whole_part fund wants i + cond (gets_odd_cent fund wants i) 1 0
   unfolding payment
-  paid_short short i =
-      ap (λ (t : Bool). cond t (want wants i) (whole_part fund wants i + cond (gets_odd_cent fund wants i) 1 0)) (lt-leb _ _ short)
+  paid_short short i = grind (arith, nat_tests)
+
+  pub left_enough : total wants ≤ fund → left fund wants ≡ fund - total wants
+  unfolding left
+  left_enough enough = grind (arith, nat_tests)
 
   pub closes_enough : total wants ≤ fund → (payments fund wants ≡ wants) × (left fund wants + total wants ≡ fund)
-  unfolding payments left
+  unfolding payments
   closes_enough enough = (
     list_below_ext (payment fund wants) (want wants) (length wants) (λ i l. paid_in_full enough i) ∙ list_below_get_or wants 0,
-    rw (le-leb (total wants) fund enough) (omega arith),
+    omega (arith, left_enough enough),
   )
 
   pub nothing_left : fund < total wants → left fund wants ≡ 0
   unfolding left
-  nothing_left short = ap (λ (t : Bool). cond t (fund - total wants) 0) (lt-leb _ _ short)
+  nothing_left short = grind (arith, nat_tests)
 
   -- exactly the unpaid cents are given
   pub odd_cents : fund < total wants → count_below (gets_odd_cent fund wants) (length wants) ≡ unpaid_cents fund wants
@@ -74,7 +78,7 @@ module _ (fund : ℕ) (wants : List ℕ) where
 
   -- no cent is made or lost
   pub closes : total (payments fund wants) + left fund wants ≡ fund
-  closes = ⊎_elim closes_short enough (below_or_not fund (total wants))
+  closes = ⊎_elim closes_short enough (cases_lt fund (total wants))
     where
       enough : total wants ≤ fund → total (payments fund wants) + left fund wants ≡ fund
       enough h = omega (arith, ap total (closes_enough h).0, (closes_enough h).1)
@@ -100,13 +104,16 @@ module _ (fund : ℕ) (wants : List ℕ) where
   pub at_most_want : (i : ℕ) → payment fund wants i ≤ want wants i
   at_most_want i =
       ⊎_elim
-      (λ short. go short (gets_odd_cent fund wants i) refl)
+      (λ short. grind (
+        arith,
+        nat_tests,
+        paid_short short i,
+        odd_has_remainder short i,
+        whole_lt_want fund wants short i,
+        whole_le_want fund wants short i,
+      ))
       (λ h. omega (arith, paid_in_full h i))
-      (below_or_not fund (total wants))
-    where
-      go : fund < total wants → (t : Bool) → gets_odd_cent fund wants i ≡ t → payment fund wants i ≤ want wants i
-      go short true e = omega (arith, short_parts short i true e, whole_lt_want fund wants short i (odd_has_remainder short i e))
-      go short false e = omega (arith, short_parts short i false e, whole_le_want fund wants short i)
+      (cases_lt fund (total wants))
 
   pub payments_at_most : (i : ℕ) → get_or (payments fund wants) i 0 ≤ get_or wants i 0
   unfolding payments
@@ -114,7 +121,7 @@ module _ (fund : ℕ) (wants : List ℕ) where
       ⊎_elim
       (λ l. omega (arith, payment_at i l, at_most_want i))
       (λ beyond. omega (arith, get_or_beyond (payment fund wants) (length wants) 0 i beyond))
-      (below_or_not i (length wants))
+      (cases_lt i (length wants))
 
   -- D times a payment and the fund times its want differ by less than D
   differ_less : fund < total wants → (i : ℕ)
@@ -161,7 +168,7 @@ module _ (fund : ℕ) (wants : List ℕ) where
       → (payment fund wants j ≤ payment fund wants i) × (payment fund wants i ≤ payment fund wants j + 1)
   unfolding whole_part remainder
   equal_wants i j l same =
-      ⊎_elim short (λ h. omega (arith, paid_in_full h i, paid_in_full h j)) (below_or_not fund (total wants))
+      ⊎_elim short (λ h. omega (arith, paid_in_full h i, paid_in_full h j)) (cases_lt fund (total wants))
     where
       short : fund < total wants
           → (payment fund wants j ≤ payment fund wants i) × (payment fund wants i ≤ payment fund wants j + 1)

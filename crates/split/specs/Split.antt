@@ -1,11 +1,11 @@
 -- The proportional split of a fund over a list of wants, in whole cents. All of it is for any fund and any list: the bounds of
 -- owners and cents stand in the refusal table alone.
 -- Assumes nothing.
-use Rattle.std.specs.Prelude.{ℕ, ◌+◌, ◌-◌, ◌*◌, ◌/◌, ◌≤◌, ◌<◌, ◌≡◌, Bool, cond, not, ◌&&◌, ◌||◌, List, [], ◌∷◌, leb, ltb, eqb, length, get_or}
+use Rattle.std.specs.Prelude.{ℕ, ◌+◌, ◌-◌, ◌*◌, ◌/◌, ◌≤◌, ◌<◌, ◌≡◌, Bool, cond, not, ◌&&◌, ◌||◌, List, [], ◌∷◌, leb, ltb, eqb, length, get_or, Result}
 use Rattle.numbers.specs.Limits.{owners, most_cents}
 use Rattle.numbers.specs.Lists.{total, count_below, list_below}
-use Rattle.numbers.specs.Refusals.{first_refusal, ◌if◌, answer_by}
-use Rattle.split.specs.declared.Allocation.{Allocation}
+use Rattle.numbers.specs.declared.refusal.Refusal.{Refusal}
+use Rattle.numbers.specs.Refusals.{first_refusal, ◌if◌, answer_by, answered}
 
 -- w(i), the want of owner i
 abbrev pub want : List ℕ → ℕ → ℕ
@@ -63,10 +63,9 @@ split_refusal wants places =
     ∷ (11 if ltb most_cents (total wants))
     ∷ [])
 
--- what a split call answers
-unfoldable pub allocation : ℕ → List ℕ → ℕ → Allocation
-allocation fund wants places =
-    record { refusal = split_refusal wants places; left = answer_by (split_refusal wants places) (left fund wants) 0 }
+-- what a split call answers: what is left of the fund
+unfoldable pub allocation : ℕ → List ℕ → ℕ → Result ℕ Refusal
+allocation fund wants places = answered (split_refusal wants places) 0 (left fund wants)
 
 -- what stands in the lent payments after a split call
 unfoldable pub payments_after : ℕ → List ℕ → List ℕ → List ℕ

@@ -1,25 +1,24 @@
 -- Texts written one after another into a buffer.
 -- Assumes nothing.
-use Prim.Native.Nat.{ℕ, ◌+◌, ◌≤◌, ◌<◌}
+use Prim.Native.Nat.{ℕ, ◌+◌, ◌≤◌}
 use mathlib.Core.Path.{◌≡◌, refl, sym, ap, ap₂, subst, ◌∙◌}
-use mathlib.Core.List.{List, [], ◌∷◌, ◌++◌, append_assoc}
+use mathlib.Core.List.{List, [], ◌++◌, append_assoc}
 use native.Mathlib.Nat.{add-zero, add_assoc}
-use native.Mathlib.Numerals.{add-one}
 use native.Mathlib.Omega.{arith}
-use lib.ListN.{length, take, drop, set, length-append, length-take, length-drop, take-append-drop}
-use lib.Seq.{take_at, drop_at, drop-drop, set_split}
+use lib.ListN.{length, take, drop, length-append, length-take, length-drop, take-append-drop}
+use lib.Seq.{take_at, drop_at, drop-drop}
+use borrow.Rule.Slice.PartMut.{put_mid}
+use Rattle.std.proofs.lemmas.Slice.{put_mid-paste}
+use Rattle.std.proofs.Math.Seq.{take-length}
 use Rattle.statement_text.specs.Buffer.{written}
-use Rattle.statement_text.specs.InnerContracts.{Wrote}
+use Rattle.statement_text.specs.InnerContracts.{Wrote, Put}
+use Rattle.statement_text.specs.declared.lent.Text.{Text}
 
 -- a buffer keeps its length
 pub written_length : (before : List ℕ) (at : ℕ) (text : List ℕ) → at + length text ≤ length before
     → length (written before at text) ≡ length before
 unfolding written
 written_length before at text room = simp (length-append, length-take, length-drop) (omega arith)
-
-pub wrote_length : (text before : List ℕ) (at : ℕ) (after : List ℕ) (end : ℕ) → Wrote text before at after end
-    → at + length text ≤ length before → length after ≡ length before
-wrote_length text before at after end w room = ap length w.buffer ∙ written_length before at text room
 
 -- nothing written
 pub wrote_nothing : (before : List ℕ) (at : ℕ) → Wrote [] before at before at
@@ -28,15 +27,6 @@ wrote_nothing before at =
     record {
       ends = sym (add-zero at);
       buffer = sym (ap (λ (n : ℕ). take at before ++ drop n before) (add-zero at) ∙ take-append-drop at before);
-    }
-
--- one byte written
-pub wrote_byte : (before : List ℕ) (at byte : ℕ) → at < length before → Wrote (byte ∷ []) before at (set before at byte) (at + 1)
-unfolding written
-wrote_byte before at byte room =
-    record {
-      ends = refl;
-      buffer = set_split before at byte room ∙ ap (λ (n : ℕ). take at before ++ (byte ∷ drop n before)) (sym (add-one at));
     }
 
 -- the front of a buffer up to the end of what was written, and what stands behind it
@@ -103,12 +93,34 @@ pub wrote_as : {one two before after : List ℕ} {at end : ℕ} → one ≡ two 
     → Wrote two before at after end
 wrote_as {one} {two} {before} {after} {at} {end} e w = subst (λ (l : List ℕ). Wrote l before at after end) e w
 
--- pieces in a row, joined from the last
-pub three : (a b c : List ℕ) → a ++ (b ++ c) ≡ a ++ b ++ c
-three a b c = simp append_assoc
+-- a piece copied over the part of the buffer that it takes
+pub put_mid_written : (before piece now : List ℕ) (at k : ℕ) → now ≡ piece → length piece ≡ k
+    → put_mid at k before now ≡ written before at piece
+unfolding written
+put_mid_written before piece now at k same size =
+    put_mid-paste at k before now piece (length piece) same size refl
+    ∙ ap (λ (l : List ℕ). take at before ++ l ++ drop (at + length piece) before) (take-length piece)
+    ∙ append_assoc (take at before) piece (drop (at + length piece) before)
 
-pub four : (a b c d : List ℕ) → a ++ (b ++ (c ++ d)) ≡ a ++ b ++ c ++ d
-four a b c d = simp append_assoc
+pub put_mid_length : (before piece now : List ℕ) (at k : ℕ) → now ≡ piece → length piece ≡ k → at + length piece ≤ length before
+    → length (put_mid at k before now) ≡ length before
+put_mid_length before piece now at k same size room =
+    ap length (put_mid_written before piece now at k same size) ∙ written_length before at piece room
 
-pub five : (a b c d e : List ℕ) → a ++ (b ++ (c ++ (d ++ e))) ≡ a ++ b ++ c ++ d ++ e
-five a b c d e = simp append_assoc
+-- ---- pieces put behind a text
+
+module _ {t : Text} where
+  pub put_nothing : t.end ≤ length t.bytes.now → Put [] t t
+  put_nothing inside = record { wrote = wrote_nothing _ _; same_buffer = refl; same_length = refl; inside = inside }
+
+  pub put_then : {one two : List ℕ} {u v : Text} → Put one t u → Put two u v → Put (one ++ two) t v
+  put_then first second =
+      record {
+        wrote = wrote_then first.wrote second.wrote (omega (arith, first.wrote.ends, first.same_length, first.inside));
+        same_buffer = second.same_buffer ∙ first.same_buffer;
+        same_length = second.same_length ∙ first.same_length;
+        inside = second.inside;
+      }
+
+  pub put_as : {one two : List ℕ} {u : Text} → one ≡ two → Put one t u → Put two t u
+  put_as {u = u} e p = subst (λ (l : List ℕ). Put l t u) e p

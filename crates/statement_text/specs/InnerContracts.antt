@@ -1,13 +1,21 @@
 -- For the contracts of inner functions alone, no part of what a writing call promises: one piece of text is written, and the room
 -- that the parts of a sentence ask for.
 -- Assumes nothing.
-use Rattle.std.specs.Prelude.{ℕ, ◌+◌, ◌≡◌, List, length}
+use Rattle.std.specs.Prelude.{ℕ, ◌+◌, ◌≤◌, ◌≡◌, List, length}
 use Rattle.statement_text.specs.Buffer.{written}
+use Rattle.statement_text.specs.declared.lent.Text.{Text}
 
 -- a text was written at a place, and ends where it is said to end
 pub record Wrote (text before : List ℕ) (at : ℕ) (after : List ℕ) (end : ℕ) : Type 0 where
   pub ends : end ≡ at + length text
   pub buffer : after ≡ written before at text
+
+-- a piece is put behind a text, in the same buffer
+pub record Put (piece : List ℕ) (text after : Text) : Type 0 where
+  pub wrote : Wrote piece text.bytes.now text.end after.bytes.now after.end
+  pub same_buffer : after.bytes.ghost_name ≡ text.bytes.ghost_name
+  pub same_length : length after.bytes.now ≡ length text.bytes.now
+  pub inside : after.end ≤ length after.bytes.now
 
 -- the most bytes of a sentence's parts: "Month end" and a number; the refusal's word; " is refused:", a number, ", " and the word;
 -- ", record" and a number

@@ -1,9 +1,9 @@
 -- The printed case, as the definitions give it: its five lines, computed by the prover.
 -- Assumes nothing.
-use Rattle.std.specs.Prelude.{ℕ, ◌-◌, ◌≡◌, refl, List, [], ◌∷◌, ◌++◌, replicate, ℤ, pos, negsuc}
+use Rattle.std.specs.Prelude.{ℕ, ◌-◌, ◌≡◌, refl, List, [], ◌∷◌, ◌++◌, replicate, ℤ, pos, negsuc, codes}
 use Prim.Native.Char.{code}
 use Rattle.numbers.specs.Limits.{owners}
-use Rattle.statement_text.specs.Text.{bytes, digits_within, digits, signed_digits, fund_line, line_text, text_of, owner_lines, lines_below, event_lines}
+use Rattle.statement_text.specs.Text.{digits_within, digits, signed_digits, fund_line, line_text, text_of, owner_lines, lines_below, event_lines}
 
 -- the lines of an hour in which only the first two owners have one; negsuc n is -(n + 1)
 abbrev lines : ℤ → ℤ → List ℤ
@@ -11,12 +11,12 @@ lines first second = first ∷ second ∷ replicate (owners - 2) (pos 0)
 
 -- the five lines that the paper prints
 unfoldable pub printed : List ℕ
-printed = bytes "H 0 0 8500\nH 0 1 -2500\nH 1 0 10000\nH 1 1 -2500\nF 1500 0\n"
+printed = codes "H 0 0 8500\nH 0 1 -2500\nH 1 0 10000\nH 1 1 -2500\nF 1500 0\n"
 
 pub printed_case : text_of
     (event_lines (code "H") 0 (lines (pos 8500) (negsuc 2499))
     ++ event_lines (code "H") 1 (lines (pos 10000) (negsuc 2499))
     ++ (fund_line 1500 0 ∷ []))
     ≡ printed
-unfolding printed bytes event_lines lines_below owner_lines text_of line_text signed_digits digits digits_within
+unfolding printed event_lines lines_below owner_lines text_of line_text signed_digits digits digits_within
 printed_case = refl

@@ -2,12 +2,6 @@
 -- Assumes nothing.
 use Rattle.std.specs.Prelude.{ℕ, zero, suc, ◌+◌, ◌*◌, ◌/◌, ◌%◌, cond, List, [], ◌∷◌, ◌++◌, ltb, length, get_or, ℤ, pos, negsuc}
 use Prim.Native.Char.{code}
-use Prim.Native.String.{String, [] as empty, ◌∷◌ as ◌before◌}
-
--- a text of plain letters, as bytes
-unfoldable pub bytes : String → List ℕ
-bytes empty = []
-bytes (letter before rest) = code letter ∷ bytes rest
 
 -- the bytes of a blank, a minus sign, a newline and a digit
 abbrev pub blank : ℕ

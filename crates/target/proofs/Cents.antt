@@ -8,7 +8,7 @@ use native.Mathlib.Nat.{le_refl, le_trans, le_of_eq, mul-le-mul}
 use native.Mathlib.Omega.{arith}
 use lib.Dec.{leb, ltb, eqb}
 use lib.ListN.{length, get_or-eq_default}
-use lib.IntN.{ℤ, pos, negsuc, nat_abs, ◌-ℤ◌}
+use lib.IntN.{ℤ, pos, negsuc, nat_abs}
 use borrow.Author.Tests.{ltb-false, leb-true, leb-false}
 use Rattle.numbers.proofs.Any.{any_miss}
 use Rattle.numbers.proofs.Signed.{abs_sub, abs_mul}
@@ -48,18 +48,15 @@ module _ (prices : List ℤ) (no_wild : any_wild prices ≡ false) where
           tame (price_at prices node)
           (any_miss (wild_at prices) (length prices) node no_wild (leb-false (length prices) node e))
 
-  pub gain_most : (kind high low : ℕ) → nat_abs (counted kind (price_at prices high -ℤ price_at prices low)) ≤ most_price + most_price
-  gain_most kind high low =
+  gain_most : (right : Right) → nat_abs (counted right.kind (spread prices right)) ≤ most_price + most_price
+  gain_most right =
       omega
-      (arith, counted_most (eqb kind 1) (price_at prices high -ℤ price_at prices low), abs_sub (price_at prices high) (price_at prices low), price_most high, price_most low)
-
-  pub counted_gain_most : (right : Right) → nat_abs (counted right.kind (spread prices right)) ≤ most_price + most_price
-  counted_gain_most right = gain_most right.kind right.sink right.source
+      (arith, counted_most (eqb right.kind 1) (spread prices right), abs_sub (price_at prices right.sink) (price_at prices right.source), price_most right.sink, price_most right.source)
 
   pub tenths_most : (right : Right) → is_good right ≡ true → nat_abs (tenths prices right) ≤ most_size * (most_price + most_price)
   tenths_most right good =
       le_trans (le_of_eq (abs_mul (pos right.size) (counted right.kind (spread prices right))))
-      (mul-le-mul (good_size_lem right good) (counted_gain_most right))
+      (mul-le-mul (good_size_lem right good) (gain_most right))
 
   live_most : (right : Right) → is_good right ≡ true → nat_abs (live_cents prices right) ≤ most_cents
   unfolding live_cents

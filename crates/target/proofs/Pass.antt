@@ -2,29 +2,30 @@
 -- Assumes nothing.
 use Prim.Native.Nat.{ℕ, ◌+◌, ◌*◌, ◌≤◌, ◌<◌, zero-le}
 use mathlib.Core.Path.{◌≡◌, refl, sym, ap, ap₂, subst, ◌∙◌}
-use mathlib.Core.Bool.{Bool, true, false, cond, not, ◌||◌, or-true, false≢true}
+use mathlib.Core.Bool.{Bool, true, false, cond, not, ◌||◌, or-true}
 use mathlib.Core.List.{List}
 use native.Mathlib.Decide.{ℕ_discrete}
-use native.Mathlib.Nat.{le_antisymm}
 use native.Mathlib.Omega.{arith}
 use lib.Dec.{eqb}
 use lib.ListN.{length, get_or, set, replicate, length-set, length-replicate, get_or-replicate}
 use lib.Seq.{get_or-set_same, get_or-set_other}
 use lib.IntN.{ℤ, pos, nat_abs, ◌+ℤ◌, +ℤ_idr}
 use borrow.Author.Tests.{eq-eqb, ne_eqb}
+use Rattle.std.specs.Prelude.{Some, None}
 use Rattle.numbers.specs.Limits.{owners}
 use Rattle.numbers.specs.Lists.{any_below, list_below, sum_below}
 use Rattle.numbers.proofs.Any.{any_none, any_more}
 use Rattle.numbers.proofs.Counts.{list_below_get_or, list_below_ext}
+use Rattle.numbers.proofs.Refusals.{answer_accepted, answer_refused}
 use Rattle.numbers.proofs.Signed.{abs_add, sum_none, sum_next}
 use Rattle.calendar.specs.declared.OperatingHour.{OperatingHour}
 use Rattle.rights.specs.declared.Right.{Right}
-use Rattle.rights.specs.Layout.{record_count, right_at, is_good}
+use Rattle.rights.specs.Layout.{record_count, right_at, is_good, is_wrong_length}
 use Rattle.rights.specs.Faults.{fault_at, any_fault, is_unpriced}
-use Rattle.rights.proofs.Faults.{fault_7, fault_8, any_fault_here, no_fault_to}
+use Rattle.rights.proofs.Faults.{file_0, file_rows, some_faults, fault_7, fault_8, any_fault_here, no_fault_to}
 use Rattle.rights.proofs.Good.{good_owner_lem}
 use Rattle.target.specs.Target.{any_wild, row_cents, row_at, own_row, own_sum}
-use Rattle.target.specs.InnerContracts.{Added}
+use Rattle.target.specs.InnerContracts.{added}
 use Rattle.target.proofs.Cents.{most_cents, row_most}
 
 module _ (file : List ℕ) (prices : List ℤ) (hour : OperatingHour) where
@@ -34,21 +35,19 @@ module _ (file : List ℕ) (prices : List ℤ) (hour : OperatingHour) where
 
   -- the records below a number have no fault, and each owner has their sum
   pub record Passed (sums : List ℤ) (number : ℕ) : Type 0 where
-    pub within : number ≤ record_count file
     pub good : any_below (fault_at (length prices) file 7) number ≡ false
     pub priced : any_below (fault_at (length prices) file 8) number ≡ false
     pub long : length sums ≡ owners
     pub each : (owner : ℕ) → owner < owners → get_or sums owner (pos 0) ≡ sum_below (own owner) number
     pub small : (owner : ℕ) → nat_abs (sum_below (own owner) number) ≤ number * most_cents
 
-  pub begins : (sums : List ℤ) → sums ≡ replicate owners (pos 0) → Passed sums 0
-  begins sums e =
+  pub begins : Passed (replicate owners (pos 0)) 0
+  begins =
       record {
-        within = zero-le;
         good = any_none _;
         priced = any_none _;
-        long = ap length e ∙ length-replicate owners (pos 0);
-        each = λ owner inside. ap (λ (l : List ℤ). get_or l owner (pos 0)) e ∙ get_or-replicate owners owner (pos 0) (pos 0) inside ∙ sym (sum_none _);
+        long = length-replicate owners (pos 0);
+        each = λ owner inside. get_or-replicate owners owner (pos 0) (pos 0) inside ∙ sym (sum_none _);
         small = λ owner. rw (sum_none (own owner)) zero-le;
       }
 
@@ -106,11 +105,10 @@ module _ (file : List ℕ) (prices : List ℤ) (hour : OperatingHour) where
         (arith, abs_add (sum_below (own owner) number) (own owner number), passed.small owner, row_to_most no_wild fine owner))
 
     -- one record more, which has no fault
-    pub passes : number < record_count file → any_wild prices ≡ false → is_good right ≡ true → is_unpriced (length prices) right ≡ false
+    pub passes : any_wild prices ≡ false → is_good right ≡ true → is_unpriced (length prices) right ≡ false
         → Passed more_sums (number + 1)
-    passes inside no_wild fine priced =
+    passes no_wild fine priced =
         record {
-          within = omega arith;
           good = any_more _ number passed.good (fault_7 (length prices) file number ∙ ap (λ (r : Right). not (is_good r)) (sym is) ∙ ap not fine);
           priced = any_more _ number passed.priced (fault_8 (length prices) file number ∙ ap (is_unpriced (length prices)) (sym is) ∙ priced);
           long = length-set sums right.owner (get_or sums right.owner (pos 0) +ℤ row_cents prices hour right) ∙ passed.long;
@@ -118,46 +116,38 @@ module _ (file : List ℕ) (prices : List ℤ) (hour : OperatingHour) where
           small = small_more no_wild fine;
         }
 
-    -- a record with a fault
-    pub stops_bad : number < record_count file → is_good right ≡ false → (after : List ℤ) → Added file prices hour after false
-    stops_bad inside bad after =
-        record {
-          faults =
-              ap (λ (b : Bool). b || any_fault (length prices) file 8)
-              (any_fault_here (length prices) file 7 number inside
-              (fault_7 (length prices) file number ∙ ap (λ (r : Right). not (is_good r)) (sym is) ∙ ap not bad));
-          added = λ e. absurd (false≢true e);
-        }
+  -- what the pass gives, of a file that has the right length
+  module _ (right_length : is_wrong_length (length file) ≡ false) where
+    stops : (any_fault (length prices) file 7 || any_fault (length prices) file 8) ≡ true → None ≡ added file prices hour
+    stops either =
+        sym (answer_refused _ _ None (λ none. some_faults (length prices) file either (sym (file_rows (length prices) file right_length) ∙ none)))
 
-    pub stops_unpriced : number < record_count file → is_unpriced (length prices) right ≡ true → (after : List ℤ)
-        → Added file prices hour after false
-    stops_unpriced inside unpriced after =
-        record {
-          faults =
-              ap (λ (b : Bool). any_fault (length prices) file 7 || b)
-              (any_fault_here (length prices) file 8 number inside
-              (fault_8 (length prices) file number ∙ ap (is_unpriced (length prices)) (sym is) ∙ unpriced))
-              ∙ or-true (any_fault (length prices) file 7);
-          added = λ e. absurd (false≢true e);
-        }
+    -- at a record with a fault
+    pub stops_bad : (number : ℕ) → number < record_count file → is_good (right_at file number) ≡ false → None ≡ added file prices hour
+    stops_bad number inside bad =
+        stops
+        (ap (λ (b : Bool). b || any_fault (length prices) file 8)
+        (any_fault_here (length prices) file 7 number inside (fault_7 (length prices) file number ∙ ap not bad)))
 
-  -- every record is passed
-  pub ends : (sums : List ℤ) (number : ℕ) → Passed sums number → record_count file ≤ number → Added file prices hour sums true
-  unfolding own_sum
-  ends sums number passed past =
-      record {
-        faults = ap₂ (λ (a b : Bool). a || b) (none 7 passed.good) (none 8 passed.priced);
-        added =
-            λ _.
-            sym (list_below_get_or sums (pos 0))
-            ∙ ap (list_below (λ i. get_or sums i (pos 0))) passed.long
-            ∙ list_below_ext (λ i. get_or sums i (pos 0)) (λ owner. own_sum file owner (row_at file prices hour)) owners
-            (λ i l. passed.each i l ∙ ap (sum_below (own i)) whole);
-      }
-    where
-      whole : number ≡ record_count file
-      whole = le_antisymm passed.within past
+    pub stops_unpriced : (number : ℕ) → number < record_count file → is_unpriced (length prices) (right_at file number) ≡ true
+        → None ≡ added file prices hour
+    stops_unpriced number inside unpriced =
+        stops
+        (ap (λ (b : Bool). any_fault (length prices) file 7 || b)
+        (any_fault_here (length prices) file 8 number inside (fault_8 (length prices) file number ∙ unpriced))
+        ∙ or-true (any_fault (length prices) file 7))
 
-      none : (refusal : ℕ) → any_below (fault_at (length prices) file refusal) number ≡ false → any_fault (length prices) file refusal ≡ false
-      none refusal e =
-          no_fault_to (length prices) file refusal (subst (λ (n : ℕ). any_below (fault_at (length prices) file refusal) n ≡ false) whole e)
+    -- past every record
+    pub ends : (sums : List ℤ) (number : ℕ) → Passed sums number → number ≡ record_count file → Some sums ≡ added file prices hour
+    unfolding own_sum
+    ends sums number passed whole =
+        ap Some
+        (sym (list_below_get_or sums (pos 0))
+        ∙ ap (list_below (λ i. get_or sums i (pos 0))) passed.long
+        ∙ list_below_ext (λ i. get_or sums i (pos 0)) (λ owner. own_sum file owner (row_at file prices hour)) owners
+        (λ i l. passed.each i l ∙ ap (sum_below (own i)) whole))
+        ∙ sym (answer_accepted _ _ None (sym (file_0 (length prices) file right_length (none 7 passed.good) (none 8 passed.priced))))
+      where
+        none : (refusal : ℕ) → any_below (fault_at (length prices) file refusal) number ≡ false → any_fault (length prices) file refusal ≡ false
+        none refusal e =
+            no_fault_to (length prices) file refusal (subst (λ (n : ℕ). any_below (fault_at (length prices) file refusal) n ≡ false) whole e)

@@ -8,7 +8,7 @@ use lib.Dec.{eqb}
 use lib.ListN.{length, get_or}
 use lib.IntN.{ℤ, pos}
 use borrow.Author.Tests.{eq-eqb}
-use Rattle.numbers.proofs.Refusals.{answer_accepted}
+use Rattle.numbers.proofs.Refusals.{answer_accepted, answer_refused}
 use Rattle.numbers.proofs.Counts.{get_or_list_below}
 use Rattle.numbers.proofs.Signed.{sum_ext}
 use Rattle.calendar.specs.Year.{operating_hour}
@@ -16,6 +16,12 @@ use Rattle.rights.specs.Layout.{record_count, right_at}
 use Rattle.target.specs.Target.{row_at, own_row, own_sum, target, call_refusal, target_refusal}
 use Rattle.target.specs.Rows.{rows, rows_refusal, row_lines, RowsAddUp, CallsAddUp}
 use Rattle.target.proofs.Answer.{writes_targets, target_at}
+
+-- a refused call leaves the lines as they were
+pub keeps_row_lines : (file : List ℕ) (prices : List ℤ) (hour : ℕ) (before : List ℤ)
+    → (rows_refusal file prices hour (length before) ≡ 0 → ⊥) → row_lines file prices hour before ≡ before
+unfolding row_lines
+keeps_row_lines file prices hour before some = answer_refused _ (rows file prices hour) before some
 
 -- the lines after an accepted call are the rows
 pub writes_rows : (file : List ℕ) (prices : List ℤ) (hour : ℕ) (before : List ℤ) → rows_refusal file prices hour (length before) ≡ 0

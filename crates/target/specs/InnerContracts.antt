@@ -1,16 +1,17 @@
 -- For the contracts of inner functions alone, no part of what a call promises.
 -- Assumes nothing.
-use Rattle.std.specs.Prelude.{ℕ, ◌≡◌, Bool, true, false, cond, ◌||◌, List, length, ℤ, pos, negsuc, neg_ℤ}
+use Rattle.std.specs.Prelude.{ℕ, List, length, Option, Some, None, ℤ, pos, negsuc, neg_ℤ}
 use Rattle.numbers.specs.Limits.{owners}
 use Rattle.numbers.specs.Lists.{list_below}
+use Rattle.numbers.specs.Refusals.{answer_by}
 use Rattle.calendar.specs.declared.OperatingHour.{OperatingHour}
-use Rattle.rights.specs.Faults.{any_fault}
+use Rattle.rights.specs.Faults.{file_refusal}
 use Rattle.target.specs.Target.{row_at, own_sum}
 
--- what one pass over the rights gives. A clean pass: no record has a fault, and each owner has the sum of its rows; any other: some record has a fault
-pub record Added (file : List ℕ) (prices : List ℤ) (hour : OperatingHour) (sums : List ℤ) (clean : Bool) : Type 0 where
-  pub faults : (any_fault (length prices) file 7 || any_fault (length prices) file 8) ≡ cond clean false true
-  pub added : clean ≡ true → sums ≡ list_below (λ owner. own_sum file owner (row_at file prices hour)) owners
+-- what one pass over the rights gives: each owner's sum of its rows, or none where some record has a fault
+abbrev pub added : List ℕ → List ℤ → OperatingHour → Option (List ℤ)
+added file prices hour =
+    answer_by (file_refusal (length prices) file) (Some (list_below (λ owner. own_sum file owner (row_at file prices hour)) owners)) None
 
 -- half a cent in tenths, with the sign of a number
 abbrev pub half_cent : ℤ → ℤ

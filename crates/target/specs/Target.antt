@@ -1,15 +1,16 @@
 -- An owner's target in an hour, and the target call.
 -- Assumes nothing.
-use Rattle.std.specs.Prelude.{ℕ, Bool, cond, not, ◌||◌, List, [], ◌∷◌, ◌++◌, leb, ltb, eqb, length, get_or, ℤ, pos, negsuc, neg_ℤ, ◌-ℤ◌, ◌*ℤ◌}
+use Rattle.std.specs.Prelude.{ℕ, Bool, cond, not, ◌||◌, List, [], ◌∷◌, ◌++◌, leb, ltb, eqb, length, get_or, ℤ, pos, negsuc, neg_ℤ, ◌-ℤ◌, ◌*ℤ◌, Result}
 use Rattle.std.specs.Int.Signed.{lt_z}
 use Rattle.numbers.specs.Limits.{owners, nodes}
 use Rattle.numbers.specs.Lists.{any_below, list_below, sum_below}
-use Rattle.numbers.specs.Refusals.{Row, ◌if◌, first_refusal, answer_by}
+use Rattle.numbers.specs.declared.refusal.Refusal.{Refusal}
+use Rattle.numbers.specs.Refusals.{Row, ◌if◌, first_refusal, answer_by, answered}
 use Rattle.calendar.specs.declared.OperatingHour.{OperatingHour}
 use Rattle.calendar.specs.Year.{hours_in_year, operating_hour}
 use Rattle.rights.specs.declared.Right.{Right}
 use Rattle.rights.specs.Layout.{record_count, right_at, is_live, is_wrong_length}
-use Rattle.rights.specs.Faults.{fault_rows}
+use Rattle.rights.specs.Faults.{fault_rows, faulty_record}
 use Rattle.target.specs.Rounding.{round_tenths}
 
 -- "cents per megawatt hour, one for each node from node 0"
@@ -103,6 +104,10 @@ call_refusal file prices hour wrong_lines =
 -- those of a target call, whose lines are 64
 abbrev pub target_refusal : List ℕ → List ℤ → ℕ → ℕ → ℕ
 target_refusal file prices hour lines = call_refusal file prices hour (is_wrong_lines lines)
+
+-- what a call that is lent rights and prices answers by its refusal: "In 7 and 8 the record number becomes the lowest one with that fault"
+abbrev pub call_answer : List ℕ → List ℤ → ℕ → Result (Unit {0}) Refusal
+call_answer file prices refusal = answered refusal (faulty_record (length prices) file refusal) tt
 
 -- the lines after a target call
 unfoldable pub target_lines : List ℕ → List ℤ → ℕ → List ℤ → List ℤ

@@ -1,19 +1,15 @@
 -- Both lengths are looked at before a price is written.
-use Rattle.std.proofs.Common.{sym, ◌∙◌, arith}
+use Rattle.std.proofs.Common.{rules, arith, w64, ◌∙◌}
 use Rattle.std.proofs.lemmas.Int.{to_z-of_z}
-use Rattle.hour_block.proofs.Answer.{wrong_length, right_length, refused, accepted, decoded_prices}
+use Rattle.hour_block.proofs.Answer.{accepted, prices_written}
+use Rattle.hour_block.proofs.Words.{amount_read}
 use Rattle.hour_block.proofs.decode.Goals as goal
 
-pub returns-then-block-prices-clause-value : goal.returns-then-block-prices-clause-value
-returns-then-block-prices-clause-value c = (refused _ _ (wrong_length _ _ c.if-block-prices.true)).0
+pub returns-in-Some-clause-value : goal.returns-in-Some-clause-value
+returns-in-Some-clause-value c =
+    let read = c.from_le_bytes.ensures ∙ amount_read c.args.block.now c.in-Some.amount.now c.in-Some.ensures.cases.same in
+    accepted c.args.block.now _ _ (omega arith) (omega arith) (to_z-of_z w64 _ (search rules) ∙ read)
 
-pub returns-then-block-prices-clause-prices_after : goal.returns-then-block-prices-clause-prices_after
-returns-then-block-prices-clause-prices_after c = (refused _ _ (wrong_length _ _ c.if-block-prices.true)).1
-
-pub returns-clause-value : goal.returns-clause-value
-returns-clause-value c =
-    (accepted _ _ _ _ (right_length _ _ c.if-block-prices.false) (grind (arith, to_z-of_z)) c.write_prices.ensures).0
-
-pub returns-clause-prices_after : goal.returns-clause-prices_after
-returns-clause-prices_after c =
-    c.write_prices.ensures ∙ sym (decoded_prices c.args.block.now _ (right_length _ _ c.if-block-prices.false))
+pub returns-in-Some-clause-prices_after : goal.returns-in-Some-clause-prices_after
+returns-in-Some-clause-prices_after c =
+    prices_written c.args.block.now c.args.prices.now _ (omega arith) (omega arith) c.write_prices.ensures

@@ -1,9 +1,13 @@
 -- The calendar call's number, and its values in the report.
-use Rattle.std.proofs.Common.{◌≡◌, ℕ, List, [], ◌∷◌, ap, ◌∙◌}
+use Rattle.std.proofs.Common.{false, Result, ap, ◌∙◌, arith}
+use Rattle.std.specs.Result.{result_unwrap_or}
+use Rattle.numbers.specs.declared.refusal.Refusal.{Refusal}
+use Rattle.numbers.specs.Refusals.{answer_number}
+use Rattle.numbers.proofs.Refusals.{number_answered}
 use Rattle.calendar.specs.declared.OperatingHour.{OperatingHour}
+use Rattle.calendar.proofs.Hours.{calendar_most, hour_or_none}
 use Rattle.pupcopper.specs.Calls.{hour_report}
-use Rattle.pupcopper.proofs.ReportWords.{flag_byte, wrong_number, right_number, wrong_kept, right_given, written_all}
-use mir.Val.{bool_byte}
+use Rattle.pupcopper.proofs.ReportWords.{wrong_number, right_number, wrong_kept, right_given}
 use Rattle.pupcopper.proofs.pupcopper_calendar.Goals as goal
 
 pub returns-then-report-ne-HOUR_WORDS-clause-value : goal.returns-then-report-ne-HOUR_WORDS-clause-value
@@ -14,20 +18,17 @@ returns-then-report-ne-HOUR_WORDS-clause-report_after c = wrong_kept 3 _ _ _ c.i
 
 pub returns-clause-value : goal.returns-clause-value
 returns-clause-value c =
-    ap (λ (h : OperatingHour). h.refusal) c.operating_hour-found.ensures ∙ right_number 3 _ _ c.if-report-ne-HOUR_WORDS.false
-
--- the values as the code has them, with the flag as a byte
-abbrev hour_bytes : OperatingHour → List ℕ
-hour_bytes hour = hour.day ∷ hour.month ∷ bool_byte hour.peak ∷ []
-
-hour_bytes_lem : (hour : OperatingHour) → hour_bytes hour ≡ hour_report hour
-hour_bytes_lem hour = ap (λ (peak : ℕ). hour.day ∷ hour.month ∷ peak ∷ []) (flag_byte hour.peak)
+    c.number_of.ensures
+    ∙ ap answer_number c.operating_hour-outcome.ensures
+    ∙ number_answered _ 0 _ (omega (arith, calendar_most c.args.hour))
+    ∙ right_number 3 _ _ c.if-report-ne-HOUR_WORDS.false
 
 pub returns-clause-report_after : goal.returns-clause-report_after
 returns-clause-report_after c =
-    let found = c.operating_hour-found.result in
-    let fits = c.if-report-ne-HOUR_WORDS.false in
-    written_all (hour_bytes found) c.args.report.now fits
-    ∙ hour_bytes_lem found
-    ∙ ap hour_report c.operating_hour-found.ensures
-    ∙ right_given 3 _ _ _ fits
+    c.copy_from_slice.ensures.after
+    ∙ c.of_hour.ensures
+    ∙ ap hour_report
+    (c.unwrap_or.ensures
+    ∙ ap (λ (r : Result OperatingHour Refusal). result_unwrap_or r (record { day = 0; month = 0; peak = false })) c.operating_hour-outcome.ensures
+    ∙ hour_or_none c.args.hour)
+    ∙ right_given 3 _ _ _ c.if-report-ne-HOUR_WORDS.false

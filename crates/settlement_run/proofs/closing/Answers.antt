@@ -6,6 +6,7 @@ use Rattle.statement_text.specs.Text.{Line, line_text, line_room}
 use Rattle.settlement_run.specs.declared.Run.{Run}
 use Rattle.settlement_run.specs.Run.{last_line}
 use Rattle.settlement_run.specs.Calls.{lacks_room, last_text, closed}
+use Rattle.settlement_run.proofs.Stepping.{lacks_said}
 use Rattle.settlement_run.proofs.closing.Goals as goal
 
 -- a line that is the run's last, written as its own call says
@@ -41,23 +42,23 @@ written_last run before line is lacks ends buffer = (
 pub returns-then-refusal-ne0-clause-value : goal.returns-then-refusal-ne0-clause-value
 unfolding last_line
 returns-then-refusal-ne0-clause-value c =
-    (written_last c.args.run c.args.text.now _ (sym (answer_refused c.args.run.refusal _ _ (λ z. omega arith))) c.lacks_room.ensures
+    (written_last c.args.run c.args.text.now _ (sym (answer_refused c.args.run.refusal _ _ (λ z. omega arith))) (lacks_said _ _ _ c.has_room.ensures)
     c.write_refusal.ensures.value c.write_refusal.ensures.text_after).0
 
 pub returns-then-refusal-ne0-clause-text_after : goal.returns-then-refusal-ne0-clause-text_after
 unfolding last_line
 returns-then-refusal-ne0-clause-text_after c =
-    (written_last c.args.run c.args.text.now _ (sym (answer_refused c.args.run.refusal _ _ (λ z. omega arith))) c.lacks_room.ensures
+    (written_last c.args.run c.args.text.now _ (sym (answer_refused c.args.run.refusal _ _ (λ z. omega arith))) (lacks_said _ _ _ c.has_room.ensures)
     c.write_refusal.ensures.value c.write_refusal.ensures.text_after).1
 
 pub returns-clause-value : goal.returns-clause-value
 unfolding last_line
 returns-clause-value c =
-    (written_last c.args.run c.args.text.now _ (sym (answer_accepted c.args.run.refusal _ _ (omega arith))) c.lacks_room.ensures
+    (written_last c.args.run c.args.text.now _ (sym (answer_accepted c.args.run.refusal _ _ (omega arith))) (lacks_said _ _ _ c.has_room.ensures)
     c.write_fund.ensures.value c.write_fund.ensures.text_after).0
 
 pub returns-clause-text_after : goal.returns-clause-text_after
 unfolding last_line
 returns-clause-text_after c =
-    (written_last c.args.run c.args.text.now _ (sym (answer_accepted c.args.run.refusal _ _ (omega arith))) c.lacks_room.ensures
+    (written_last c.args.run c.args.text.now _ (sym (answer_accepted c.args.run.refusal _ _ (omega arith))) (lacks_said _ _ _ c.has_room.ensures)
     c.write_fund.ensures.value c.write_fund.ensures.text_after).1

@@ -1,20 +1,23 @@
 -- The refusal of the rights file, row by row of its table.
-use Rattle.std.proofs.Common.{not, sym, ap, ◌∙◌}
-use borrow.Author.Tests.{lt-ltb, le-ltb}
+use Rattle.std.proofs.Common.{◌≡◌, ℕ, Bool, true, false, ◌&&◌, cond, refl, sym, ap, ◌∙◌}
+use Rattle.std.proofs.lemmas.Bool.{leb-true, leb-false, lt-ltb, le-ltb}
+use lib.Dec.{leb}
 use Rattle.numbers.proofs.Refusals.{refusal_none, refusal_here, refusal_next}
+use Rattle.rights.specs.Layout.{most_bytes}
 use Rattle.settlement_run.specs.Run.{opening_refusal}
 use Rattle.settlement_run.proofs.opening_refusal.Goals as goal
 
-pub returns-then-not-readable : goal.returns-then-not-readable
+by_tests : (bytes : ℕ) (readable short : Bool) → leb bytes most_bytes ≡ short
+    → opening_refusal readable bytes ≡ cond {A = ℕ} (readable && short) 0 4
 unfolding opening_refusal
-returns-then-not-readable c = sym (refusal_here 4 _ (ap not c.if-not-readable.true))
+by_tests bytes true true e = refusal_next 4 _ refl ∙ refusal_next 4 _ (le-ltb most_bytes bytes (leb-true _ _ e)) ∙ refusal_none
+by_tests bytes true false e = refusal_next 4 _ refl ∙ refusal_here 4 _ (lt-ltb most_bytes bytes (leb-false _ _ e))
+by_tests bytes false short e = refusal_here 4 _ refl
 
-pub returns-then-bytes-gt-FILE_BYTES : goal.returns-then-bytes-gt-FILE_BYTES
-unfolding opening_refusal
-returns-then-bytes-gt-FILE_BYTES c =
-    sym (refusal_next 4 _ (ap not c.if-not-readable.false) ∙ refusal_here 4 _ (lt-ltb _ _ c.if-bytes-gt-FILE_BYTES.true))
+pub returns-then-readable-bytes : goal.returns-then-readable-bytes
+returns-then-readable-bytes c =
+    sym (by_tests c.args.bytes c.args.readable _ refl ∙ ap (λ (t : Bool). cond {A = ℕ} t 0 4) c.if-readable-bytes.true)
 
-pub returns : goal.returns
-unfolding opening_refusal
-returns c =
-    sym (refusal_next 4 _ (ap not c.if-not-readable.false) ∙ refusal_next 4 _ (le-ltb _ _ c.if-bytes-gt-FILE_BYTES.false) ∙ refusal_none)
+pub returns-else-readable-bytes : goal.returns-else-readable-bytes
+returns-else-readable-bytes c =
+    c.number.ensures ∙ sym (by_tests c.args.bytes c.args.readable _ refl ∙ ap (λ (t : Bool). cond {A = ℕ} t 0 4) c.if-readable-bytes.false)

@@ -1,15 +1,10 @@
 -- Up to i the payments have their odd cents, and from i on they are as they were.
-use Rattle.std.proofs.Common.{ℕ, take, get_or, ◌-◌, ◌≡◌, ◌≤◌}
-use Rattle.numbers.specs.Lists.{list_below}
+use Rattle.std.proofs.Common.{ℕ, get_or, ◌≡◌, ◌≤◌, ◌<◌}
 use Rattle.split.specs.InnerContracts.{with_odd_cent}
 use Rattle.split.proofs.pay_odd_cents.Given as goal
 
 abbrev pub invariant-loop-i : goal.invariant-loop-i
 invariant-loop-i l = record {
-  within : l.i ≤ l.owners;
-  given : take l.i l.payments ≡ list_below (with_odd_cent l.remainders l.unpaid l.fn.payments) l.i;
+  given : (k : ℕ) → k < l.i → get_or l.payments k 0 ≡ with_odd_cent l.remainders l.unpaid l.fn.payments k;
   as_before : (k : ℕ) → l.i ≤ k → get_or l.payments k 0 ≡ get_or l.fn.payments k 0;
 }
-
-abbrev pub decreases-loop-i : goal.decreases-loop-i
-decreases-loop-i l = l.owners - l.i

@@ -1,81 +1,65 @@
-use Rattle.std.proofs.Common.{ℕ, ◌+◌, ◌≤◌, ◌<◌, ◌≡◌, ◌∙◌, Bool, false, cond, ltb, List, length, get_or, refl, sym, ap, ap₂, arith}
-use mathlib.Core.Logic.{⊎_elim}
+use Rattle.std.proofs.Common.{rules, ℕ, ◌+◌, ◌<◌, ◌≡◌, ◌∙◌, Bool, cond, ltb, List, length, get_or, sym, ap, ap₂, arith}
 use borrow.Author.Tests.{le-ltb}
-use Rattle.numbers.specs.Limits.{most_cents}
-use Rattle.numbers.specs.Lists.{count_below, list_below}
-use Rattle.numbers.proofs.Counts.{count_ext, length_list_below, get_or_list_below, get_or_beyond, list_below_ext, get_or_le_total}
-use Rattle.split.specs.InnerContracts.{ahead_by, place_of, with_odd_cent, Short, WholePaid}
-use Rattle.split.specs.Split.{whole_part, unpaid_cents, is_ahead, gets_odd_cent, payment, stands_ahead}
-use Rattle.split.proofs.Order.{below_or_not}
-use Rattle.split.proofs.Shares.{whole_le_want}
+use lib.Seq.{ext_get_or}
+use Rattle.numbers.specs.Lists.{total, count_below, list_below}
+use Rattle.numbers.proofs.Counts.{count_ext, length_list_below, get_or_list_below}
+use Rattle.split.specs.InnerContracts.{ahead_by, place_of, with_odd_cent, WholePaid}
+use Rattle.split.specs.Split.{is_ahead, gets_odd_cent, payment, stands_ahead}
+use Rattle.split.proofs.Shares.{whole_and_unpaid}
 use Rattle.split.proofs.Laws.{paid_short}
 use Rattle.split.proofs.pay_shares.Goals as goal
 
-module _ {fund sum : ℕ} {wants places paid remainders : List ℕ} {unpaid : ℕ} (case : Short fund sum wants places) (done : WholePaid fund wants paid remainders unpaid) where
-  -- a whole part is no more than the sum of the wants
-  whole_small : (k : ℕ) → get_or paid k 0 ≤ most_cents
-  whole_small k =
-      let here = ap (λ (l : List ℕ). get_or l k 0) done.whole in
-      ⊎_elim
-      (λ l. omega (arith, get_or_list_below (whole_part fund wants) (length wants) 0 k l, whole_le_want fund wants (omega arith) k, get_or_le_total wants k))
-      (λ l. omega (arith, get_or_beyond (whole_part fund wants) (length wants) 0 k l))
-      (below_or_not k (length wants))
+-- without an odd cent a payment is as it was
+no_cent : (remainders paid : List ℕ) (i : ℕ) → with_odd_cent remainders 0 paid i ≡ get_or paid i 0
+unfolding with_odd_cent
+no_cent remainders paid i = rw (le-ltb (place_of remainders i) 0 (omega arith)) (omega arith)
 
-  paid_length : length paid ≡ length wants
-  paid_length = ap length done.whole ∙ length_list_below (whole_part fund wants) (length wants)
-
+module _ {fund : ℕ} {wants paid remainders : List ℕ} {unpaid : ℕ} (short : fund < total wants) (kept : length remainders ≡ length wants) (done : WholePaid fund wants paid remainders unpaid) where
   -- the place by the kept remainders is the rule's
-  place_is : (i : ℕ) → i < length wants → place_of remainders (length paid) i ≡ count_below (is_ahead fund wants i) (length wants)
+  place_is : (i : ℕ) → i < length wants → place_of remainders i ≡ count_below (is_ahead fund wants i) (length wants)
   unfolding place_of is_ahead
   place_is i l =
-      ap (λ (m : ℕ). count_below (ahead_by (λ k. get_or remainders k 0) i) m) paid_length
+      ap (λ (m : ℕ). count_below (ahead_by (λ k. get_or remainders k 0) i) m) kept
       ∙ count_ext
       (ahead_by (λ k. get_or remainders k 0) i)
       (is_ahead fund wants i)
       (length wants)
       (λ j m. ap₂ (λ (x y : ℕ). stands_ahead x i y j) (done.remains i l) (done.remains j m))
 
-  odd_is : (i : ℕ) → i < length wants → ltb (place_of remainders (length paid) i) unpaid ≡ gets_odd_cent fund wants i
+  odd_is : (i : ℕ) → i < length wants → ltb (place_of remainders i) unpaid ≡ gets_odd_cent fund wants i
   unfolding gets_odd_cent
-  odd_is i l = ap₂ (λ (p e : ℕ). ltb p e) (place_is i l) done.cents
+  odd_is i l = ap₂ (λ (p e : ℕ). ltb p e) (place_is i l) (omega (arith, done.cents, whole_and_unpaid fund wants short))
+
+  -- a whole part, with its odd cent, is the rule's payment
+  payment_is : (i : ℕ) → i < length wants → with_odd_cent remainders unpaid paid i ≡ payment fund wants i
+  unfolding with_odd_cent
+  payment_is i l = ap₂ (λ (w : ℕ) (t : Bool). w + cond t 1 0) (done.whole i l) (odd_is i l) ∙ sym (paid_short fund wants short i)
 
   -- with as many odd cents as are unpaid, the rule's payments
-  with_odd_cents : (cents : ℕ) (after : List ℕ) → after ≡ list_below (with_odd_cent remainders cents paid) (length paid)
-      → cents ≡ unpaid → after ≡ list_below (payment fund wants) (length wants)
-  unfolding with_odd_cent
-  with_odd_cents cents after given e =
-      given
-      ∙ ap₂ (λ (n m : ℕ). list_below (with_odd_cent remainders n paid) m) e paid_length
-      ∙ list_below_ext (with_odd_cent remainders unpaid paid) (payment fund wants) (length wants) at
+  shares_are : (cents : ℕ) (after : List ℕ) → cents ≡ unpaid → length after ≡ length wants
+      → ((i : ℕ) → i < length wants → get_or after i 0 ≡ with_odd_cent remainders cents paid i)
+      → after ≡ list_below (payment fund wants) (length wants)
+  shares_are cents after all_given as_many given =
+      ext_get_or
+      0
+      after
+      (list_below (payment fund wants) (length wants))
+      (as_many ∙ sym (length_list_below (payment fund wants) (length wants)))
+      (λ i l. at i (omega arith))
     where
-      at : (i : ℕ) → i < length wants → with_odd_cent remainders unpaid paid i ≡ payment fund wants i
+      at : (i : ℕ) → i < length wants → get_or after i 0 ≡ get_or (list_below (payment fund wants) (length wants)) i 0
       at i l =
-          let here = ap (λ (ps : List ℕ). get_or ps i 0) done.whole ∙ get_or_list_below (whole_part fund wants) (length wants) 0 i l in
-          ap₂ (λ (w : ℕ) (t : Bool). w + cond t 1 0) here (odd_is i l) ∙ sym (paid_short fund wants (omega arith) i)
-
-  -- with no cent unpaid, the whole parts alone
-  no_odd_cents : unpaid ≡ 0 → paid ≡ list_below (payment fund wants) (length wants)
-  unfolding gets_odd_cent
-  no_odd_cents none =
-      done.whole
-      ∙ list_below_ext
-      (whole_part fund wants)
-      (payment fund wants)
-      (length wants)
-      at
-    where
-      at : (i : ℕ) → i < length wants → whole_part fund wants i ≡ payment fund wants i
-      at i l =
-          let ahead = count_below (is_ahead fund wants i) (length wants) in
-          let no : gets_odd_cent fund wants i ≡ false = le-ltb ahead (unpaid_cents fund wants) (omega arith) in
-          let cent : cond {A = ℕ} (gets_odd_cent fund wants i) 1 0 ≡ 0 = ap (λ (t : Bool). cond t 1 0) no in
-          omega (arith, paid_short fund wants (omega arith) i)
-
-pub pay_odd_cents-requires-clause-by_index : goal.pay_odd_cents-requires-clause-by_index
-pay_odd_cents-requires-clause-by_index c = whole_small c.requires c.pay_whole_parts-unpaid.ensures
+          given i l
+          ∙ ap (λ (n : ℕ). with_odd_cent remainders n paid i) all_given
+          ∙ payment_is i l
+          ∙ sym (get_or_list_below (payment fund wants) (length wants) 0 i l)
 
 pub returns-then-unpaid-gt0 : goal.returns-then-unpaid-gt0
-returns-then-unpaid-gt0 c = with_odd_cents c.requires c.pay_whole_parts-unpaid.ensures _ _ c.pay_odd_cents.ensures refl
+returns-then-unpaid-gt0 c =
+    shares_are (omega arith) (search rules) c.pay_whole_parts-unpaid.ensures _ _ (omega arith) (omega arith)
+    (λ i l. c.pay_odd_cents.ensures i (omega arith))
 
 pub returns-else-unpaid-gt0 : goal.returns-else-unpaid-gt0
-returns-else-unpaid-gt0 c = no_odd_cents c.requires c.pay_whole_parts-unpaid.ensures (omega arith)
+returns-else-unpaid-gt0 c =
+    shares_are (omega arith) (search rules) c.pay_whole_parts-unpaid.ensures 0 _ (omega arith) (omega arith)
+    (λ i l. sym (no_cent _ _ i))

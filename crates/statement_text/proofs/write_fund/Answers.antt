@@ -1,34 +1,23 @@
--- The letter, the two numbers and the newline, if there is room; each leaves room for the next.
-use Rattle.std.proofs.Common.{◌+◌, ◌≤◌, length, arith}
+-- The letter, the two numbers and the newline, if there is room.
+use Rattle.std.proofs.Common.{rules, arith, sym, ◌∙◌}
+use borrow.Author.Tests.{leb-true, leb-false}
 use Rattle.statement_text.specs.Text.{line_text, fund_line, line_room}
-use Rattle.statement_text.proofs.Lines.{field_length, wrote_fund}
+use Rattle.statement_text.proofs.Lines.{put_field, put_fund}
 use Rattle.statement_text.proofs.Room.{with_room, without_room}
 use Rattle.statement_text.proofs.write_fund.Goals as goal
 
-pub returns-then-text-at : goal.returns-then-text-at
-returns-then-text-at c =
-    let is = without_room line_room (line_text (fund_line c.args.month c.args.year)) c.args.text.now c.args.at (omega arith) in
+pub returns-then-not-has_room : goal.returns-then-not-has_room
+returns-then-not-has_room c =
+    let short = leb-false _ _ (sym c.has_room.ensures ∙ c.if-not-has_room.true) in
+    let is = without_room line_room (line_text (fund_line c.args.month c.args.year)) c.args.text.now c.args.at short in
     record { value = is.0; text_after = is.1 }
-
-pub returns-then-text-at-lt-LINE_ROOM : goal.returns-then-text-at-lt-LINE_ROOM
-returns-then-text-at-lt-LINE_ROOM c =
-    let is = without_room line_room (line_text (fund_line c.args.month c.args.year)) c.args.text.now c.args.at (omega arith) in
-    record { value = is.0; text_after = is.1 }
-
-pub write_field-third-requires : goal.write_field-third-requires
-write_field-third-requires c = omega (arith, field_length c.args.month c.ranges.month.fits)
-
-pub put-requires : goal.put-requires
-put-requires c =
-    omega (arith, field_length c.args.month c.ranges.month.fits, field_length c.args.year c.ranges.year.fits)
 
 pub returns : goal.returns
 returns c =
-    let room : c.args.at + line_room ≤ length c.args.text.now = omega arith in
-    let is =
-    with_room line_room _ _ _ _ _ room
-    (wrote_fund c.args.month c.args.year c.ranges.month.fits c.ranges.year.fits c.put-first.ensures c.write_field-second.ensures
-    c.write_field-third.ensures
-    c.put.ensures
-    room) in
-    record { value = is.0; text_after = is.1 }
+    let line =
+    put_fund _ _ c.put.ensures (put_field c.args.month c.field.ensures.put (omega arith) c.ranges.month.fits)
+    (put_field c.args.year c.field-2.ensures.put (omega arith) c.ranges.year.fits)
+    c.put-2.ensures in
+    let room = leb-true _ _ (sym c.has_room.ensures ∙ c.if-not-has_room.false) in
+    let is = with_room line_room _ _ _ _ _ room line.wrote in
+    record { value = is.0; text_after = search (rules, line.same_buffer, is.1) }

@@ -1,28 +1,20 @@
--- The letter, the number and the newline, if there is room; each leaves room for the next.
-use Rattle.std.proofs.Common.{◌+◌, ◌≤◌, length, arith}
+-- The letter, the number and the newline, if there is room.
+use Rattle.std.proofs.Common.{rules, arith, sym, ◌∙◌}
+use borrow.Author.Tests.{leb-true, leb-false}
 use Rattle.statement_text.specs.Text.{line_text, refusal_line, line_room}
-use Rattle.statement_text.proofs.Lines.{field_length, room_left, wrote_refusal}
+use Rattle.statement_text.proofs.Lines.{put_field, put_refusal}
 use Rattle.statement_text.proofs.Room.{with_room, without_room}
 use Rattle.statement_text.proofs.write_refusal.Goals as goal
 
-pub returns-then-text-at : goal.returns-then-text-at
-returns-then-text-at c =
-    let is = without_room line_room (line_text (refusal_line c.args.number)) c.args.text.now c.args.at (omega arith) in
+pub returns-then-not-has_room : goal.returns-then-not-has_room
+returns-then-not-has_room c =
+    let short = leb-false _ _ (sym c.has_room.ensures ∙ c.if-not-has_room.true) in
+    let is = without_room line_room (line_text (refusal_line c.args.number)) c.args.text.now c.args.at short in
     record { value = is.0; text_after = is.1 }
-
-pub returns-then-text-at-lt-LINE_ROOM : goal.returns-then-text-at-lt-LINE_ROOM
-returns-then-text-at-lt-LINE_ROOM c =
-    let is = without_room line_room (line_text (refusal_line c.args.number)) c.args.text.now c.args.at (omega arith) in
-    record { value = is.0; text_after = is.1 }
-
-pub put-requires : goal.put-requires
-put-requires c =
-    let left = room_left 21 1 c.write_field-second.ensures (field_length _ (omega arith)) (omega arith) in omega arith
 
 pub returns : goal.returns
 returns c =
-    let room : c.args.at + line_room ≤ length c.args.text.now = omega arith in
-    let is =
-    with_room line_room _ _ _ _ _ room
-    (wrote_refusal c.args.number (omega arith) c.put-first.ensures c.write_field-second.ensures c.put.ensures room) in
-    record { value = is.0; text_after = is.1 }
+    let line = put_refusal _ c.put.ensures (put_field c.args.number c.field.ensures.put (omega arith) (omega arith)) c.put-2.ensures in
+    let room = leb-true _ _ (sym c.has_room.ensures ∙ c.if-not-has_room.false) in
+    let is = with_room line_room _ _ _ _ _ room line.wrote in
+    record { value = is.0; text_after = search (rules, line.same_buffer, is.1) }

@@ -1,24 +1,16 @@
 -- The laws of the pass, at each place of the loop.
-use Rattle.std.proofs.Common.{ℕ, ◌≡◌, ◌<◌, ◌+◌, Bool, true, false, ◌&&◌, List, ℤ, length, sym, ap, subst, refl, ◌∙◌, arith, nat_lt}
+use Rattle.std.proofs.Common.{ℕ, ◌≡◌, ◌+◌, Bool, true, false, ◌&&◌, List, ℤ, length, refl, sym, subst, ◌∙◌, arith, nat_lt}
 use Rattle.std.proofs.lemmas.Bool.{ltb-false}
 use Rattle.numbers.specs.Limits.{nodes}
-use Rattle.rights.specs.declared.Reading.{Reading}
 use Rattle.rights.specs.declared.Right.{Right}
-use Rattle.rights.specs.Layout.{record_count, right_at, is_good, is_wrong_length, reading}
+use Rattle.rights.specs.Layout.{is_good}
 use Rattle.rights.specs.Faults.{is_unpriced}
-use Rattle.rights.proofs.Readings.{records_most, accepted_good, accepted_right, refused_bad}
+use Rattle.rights.proofs.Readings.{records_most}
 use Rattle.rights.proofs.Good.{good_owner_lem, good_priced}
+use Rattle.target.proofs.Answered.{read_right, read_refused}
 use Rattle.target.proofs.Cents.{row_most}
 use Rattle.target.proofs.Pass.{Passed, begins, passes, stops_bad, stops_unpriced, ends}
 use Rattle.target.proofs.add_rights.Goals as goal
-
--- what the read of a record gives, where it is accepted, is the file's right, and good
-accepted : (file : List ℕ) (number : ℕ) (r : Reading) → is_wrong_length (length file) ≡ false → number < record_count file
-    → r ≡ reading file number → r.refusal ≡ 0 → (r.right ≡ right_at file number) × (is_good r.right ≡ true)
-accepted file number r long inside is none =
-    let zero : (reading file number).refusal ≡ 0 = ap (λ (r : Reading). r.refusal) (sym is) ∙ none in
-    let same : r.right ≡ right_at file number = ap (λ (r : Reading). r.right) is ∙ accepted_right file number long inside zero in
-    (same, ap is_good same ∙ accepted_good file number long inside zero)
 
 -- with as many prices as nodes it is not asked whether a good right is unpriced, and it is not so
 asked : (right : Right) (prices : ℕ) (unpriced : Bool) → is_good right ≡ true → unpriced ≡ is_unpriced prices right
@@ -30,39 +22,42 @@ asked right prices unpriced good is = by_test (nat_lt prices nodes) refl
     by_test false e = sym (good_priced right good prices (ltb-false prices nodes e))
 
 pub loop-number-init : goal.loop-number-init
-loop-number-init c = begins _ _ _ _ c.requires.2
+loop-number-init c = begins _ _ _
 
-pub returns-then-reading-ne0 : goal.returns-then-reading-ne0
-returns-then-reading-ne0 c =
-    stops_bad _ _ _ _ _ c.loop-number.invariant (right_at c.args.rights.now c.loop-number.number) refl c.loop-number-test.true
-    (refused_bad _ _ c.requires.0 c.loop-number-test.true
-    (λ e. c.if-reading-ne0.true (ap (λ (r : Reading). r.refusal) c.read-reading.ensures ∙ e))) _
+pub returns-in_default : goal.returns-in_default
+returns-in_default c =
+    stops_bad _ _ _ c.requires.0 _ c.loop-number-test.true
+    (read_refused _ _ c.requires.0 c.loop-number-test.true _ (sym c.read.ensures ∙ c.in_default.is))
 
 pub returns-then-prices-is_unpriced : goal.returns-then-prices-is_unpriced
 returns-then-prices-is_unpriced c =
-    let right = accepted _ _ c.read-reading.result c.requires.0 c.loop-number-test.true c.read-reading.ensures c.if-reading-ne0.false in
-    stops_unpriced _ _ _ _ _ c.loop-number.invariant c.read-reading.result.right right.0 c.loop-number-test.true
-    (sym (asked c.read-reading.result.right _ _ right.1 c.is_unpriced.ensures) ∙ c.if-prices-is_unpriced.true) _
+    let right = read_right _ _ c.requires.0 c.loop-number-test.true _ (sym c.read.ensures ∙ c.in-Ok.is) in
+    let unpriced = sym (asked c.in-Ok.right _ _ right.1 c.is_unpriced.ensures) ∙ c.if-prices-is_unpriced.true in
+    stops_unpriced _ _ _ c.requires.0 _ c.loop-number-test.true (subst (λ (r : Right). is_unpriced (length c.args.prices.now) r ≡ true) right.0 unpriced)
 
-pub add_row-requires-clause-lent : goal.add_row-requires-clause-lent
-add_row-requires-clause-lent c =
-    let right = accepted _ _ c.read-reading.result c.requires.0 c.loop-number-test.true c.read-reading.ensures c.if-reading-ne0.false in
-    (right.1, sym (asked c.read-reading.result.right _ _ right.1 c.is_unpriced.ensures) ∙ c.if-prices-is_unpriced.false, c.requires.1)
+pub invariant_of-add_to : goal.invariant_of-add_to
+invariant_of-add_to c =
+    let right = read_right _ _ c.requires.0 c.loop-number-test.true _ (sym c.read.ensures ∙ c.in-Ok.is) in
+    record {
+      good = right.1;
+      priced = sym (asked c.in-Ok.right _ _ right.1 c.is_unpriced.ensures) ∙ c.if-prices-is_unpriced.false;
+      tame = c.requires.1;
+    }
 
-pub add_row-requires-clause-sum_fits : goal.add_row-requires-clause-sum_fits
-add_row-requires-clause-sum_fits c =
-    let right = c.read-reading.result.right in
-    let good = (accepted _ _ c.read-reading.result c.requires.0 c.loop-number-test.true c.read-reading.ensures c.if-reading-ne0.false).1 in
+pub add_to-requires : goal.add_to-requires
+add_to-requires c =
+    let right = c.in-Ok.right in
+    let good = (read_right _ _ c.requires.0 c.loop-number-test.true right (sym c.read.ensures ∙ c.in-Ok.is)).1 in
     rw (c.loop-number.invariant.each right.owner (good_owner_lem right good))
     (omega
     (arith, c.loop-number.invariant.small right.owner, row_most c.args.prices.now c.requires.1 c.args.hour right good, records_most c.args.rights.now c.requires.0))
 
 pub loop-number-preserved : goal.loop-number-preserved
 loop-number-preserved c =
-    let right = accepted _ _ c.read-reading.result c.requires.0 c.loop-number-test.true c.read-reading.ensures c.if-reading-ne0.false in
-    let priced = sym (asked c.read-reading.result.right _ _ right.1 c.is_unpriced.ensures) ∙ c.if-prices-is_unpriced.false in
-    subst (λ (l : List ℤ). Passed c.args.rights.now c.args.prices.now c.args.hour l (c.loop-number.number + 1)) (sym c.add_row.ensures)
-    (passes _ _ _ _ _ c.loop-number.invariant c.read-reading.result.right right.0 c.loop-number-test.true c.requires.1 right.1 priced)
+    let right = read_right _ _ c.requires.0 c.loop-number-test.true c.in-Ok.right (sym c.read.ensures ∙ c.in-Ok.is) in
+    let priced = sym (asked c.in-Ok.right _ _ right.1 c.is_unpriced.ensures) ∙ c.if-prices-is_unpriced.false in
+    subst (λ (l : List ℤ). Passed c.args.rights.now c.args.prices.now c.args.hour l (c.loop-number.number + 1)) (sym c.add_to.ensures)
+    (passes _ _ _ _ _ c.loop-number.invariant c.in-Ok.right right.0 c.requires.1 right.1 priced)
 
 pub returns : goal.returns
-returns c = ends _ _ _ _ _ c.loop-number.invariant c.loop-number-test.false
+returns c = ends _ _ _ c.requires.0 _ _ c.loop-number.invariant (omega arith)

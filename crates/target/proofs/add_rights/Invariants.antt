@@ -1,11 +1,6 @@
 -- The records so far have no fault, and each owner has the sum of its rows.
-use Rattle.std.proofs.Common.{◌-◌}
-use Rattle.rights.specs.Layout.{record_count}
 use Rattle.target.proofs.Pass.{Passed}
 use Rattle.target.proofs.add_rights.Given as goal
 
 abbrev pub invariant-loop-number : goal.invariant-loop-number
 invariant-loop-number l = Passed l.rights l.prices l.hour l.sums l.number
-
-abbrev pub decreases-loop-number : goal.decreases-loop-number
-decreases-loop-number l = record_count l.rights - l.number

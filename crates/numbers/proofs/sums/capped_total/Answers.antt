@@ -9,10 +9,10 @@ none_left : (amounts : List ℕ) (i : ℕ) → length amounts ≤ i → total (d
 unfolding total
 none_left amounts i l = ap total (drop_of_length-le amounts l)
 
-pub loop-i-preserved : goal.loop-i-preserved
-loop-i-preserved c =
-    let more = total_drop c.args.amounts.now c.loop-i.i (omega arith) in
+pub loop-amount-preserved : goal.loop-amount-preserved
+loop-amount-preserved c =
+    let more = total_drop c.args.amounts.now c.loop-amount.amount-index (omega arith) in
     record { within = omega arith; capped = omega arith; comes_to = omega arith }
 
 pub returns : goal.returns
-returns c = let none = none_left c.args.amounts.now c.loop-i.i (omega arith) in omega arith
+returns c = let none = none_left c.args.amounts.now c.loop-amount.amount-index (omega arith) in omega arith

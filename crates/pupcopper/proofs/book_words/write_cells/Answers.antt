@@ -8,15 +8,12 @@ use Rattle.pupcopper.proofs.book_words.write_cells.Goals as goal
 
 pub loop-owner-init : goal.loop-owner-init
 unfolding list_below
-loop-owner-init c = record { within = omega arith; filled = refl }
+loop-owner-init c = refl
 
 pub loop-owner-preserved : goal.loop-owner-preserved
-loop-owner-preserved c = record {
-  within = omega arith;
-  filled = two_more c.args.month c.args.year _ _ (omega arith) c.loop-owner.invariant.filled;
-}
+loop-owner-preserved c = two_more c.args.month.now c.args.year.now _ _ (omega arith) c.loop-owner.invariant
 
 pub returns : goal.returns
 unfolding by_owner
 returns c =
-    filled_all _ _ (2 * c.loop-owner.owner) shortfall_words (omega arith) (omega arith) c.loop-owner.invariant.filled
+    filled_all _ _ (2 * c.loop-owner.owner) shortfall_words (omega arith) (omega arith) c.loop-owner.invariant

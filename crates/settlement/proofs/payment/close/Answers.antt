@@ -8,5 +8,5 @@ use Rattle.settlement.proofs.payment.close.Goals as goal
 
 pub write_payments-requires : goal.write_payments-requires
 write_payments-requires c =
-    let paid : c.pay-paid.result.payments ≡ payments c.args.fund c.args.wants = ap (λ (p : Paid). p.payments) c.pay-paid.ensures in
+    let paid : c.pay-paid.result.payments ≡ payments c.args.fund c.args.wants.now = ap (λ (p : Paid). p.payments) c.pay-paid.ensures in
     (c.requires.1, λ i. rw paid (payment_small _ _ most_cents c.requires.0 i))

@@ -1,30 +1,25 @@
 -- Letter by letter.
 use Rattle.std.proofs.Common.{ℕ, sym, ap, arith}
-use Rattle.statement_text.specs.Text.{bytes}
 use Rattle.statement_text.specs.Sentence.{event_phrase}
-use Rattle.statement_text.proofs.Pieces.{wrote_then, wrote_as}
+use Rattle.statement_text.proofs.Pieces.{put_as}
 use Rattle.statement_text.proofs.SentenceParts.{other_event}
 use Rattle.statement_text.proofs.sentence.write_named.Goals as goal
 
-pub returns-then-tag-eq72 : goal.returns-then-tag-eq72
-unfolding event_phrase bytes
-returns-then-tag-eq72 c =
-    wrote_as (sym (ap (λ (tag : ℕ). event_phrase tag c.args.number) c.if-tag-eq72.true))
-    (wrote_then c.write_bytes-hour.ensures c.write_field.ensures (omega arith))
+pub returns-in-72-clause-put : goal.returns-in-72-clause-put
+unfolding event_phrase
+returns-in-72-clause-put c =
+    put_as (sym (ap (λ (tag : ℕ). event_phrase tag c.args.number) c.in-72.is)) c.write_numbered.ensures.put
 
-pub returns-then-tag-eq77 : goal.returns-then-tag-eq77
-unfolding event_phrase bytes
-returns-then-tag-eq77 c =
-    wrote_as (sym (ap (λ (tag : ℕ). event_phrase tag c.args.number) c.if-tag-eq77.true))
-    (wrote_then c.write_bytes-month.ensures c.write_field-then-tag-eq77.ensures (omega arith))
+pub returns-in-77-clause-put : goal.returns-in-77-clause-put
+unfolding event_phrase
+returns-in-77-clause-put c =
+    put_as (sym (ap (λ (tag : ℕ). event_phrase tag c.args.number) c.in-77.is)) c.write_numbered-in-77.ensures.put
 
-pub returns-then-tag-eq89 : goal.returns-then-tag-eq89
-unfolding event_phrase bytes
-returns-then-tag-eq89 c =
-    wrote_as (sym (ap (λ (tag : ℕ). event_phrase tag c.args.number) c.if-tag-eq89.true))
-    (wrote_then c.write_bytes-year.ensures c.write_field-then-tag-eq89.ensures (omega arith))
+pub returns-in-89-clause-put : goal.returns-in-89-clause-put
+unfolding event_phrase
+returns-in-89-clause-put c =
+    put_as (sym (ap (λ (tag : ℕ). event_phrase tag c.args.number) c.in-89.is)) c.write_numbered-in-89.ensures.put
 
-pub returns : goal.returns
-unfolding bytes
-returns c =
-    wrote_as (other_event _ _ c.if-tag-eq72.false c.if-tag-eq77.false c.if-tag-eq89.false) c.write_bytes.ensures
+pub returns-in_default-clause-put : goal.returns-in_default-clause-put
+returns-in_default-clause-put c =
+    put_as (other_event _ _ (λ e. omega (arith, e)) (λ e. omega (arith, e)) (λ e. omega (arith, e))) c.put.ensures

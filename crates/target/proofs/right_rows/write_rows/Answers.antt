@@ -1,53 +1,49 @@
 -- One more line is the row of its record, since each record of a file without a fault is good and has its prices.
-use Rattle.std.proofs.Common.{ℕ, ◌≡◌, ◌<◌, true, false, List, ap, refl, ◌∙◌, arith}
+use Rattle.std.proofs.Common.{rules, ℕ, ◌≡◌, ◌<◌, true, false, List, sym, ap, refl, ◌∙◌, arith, Ok}
 use Rattle.std.proofs.lemmas.Int.{to_z-of_z}
-use Rattle.std.proofs.Math.ListN.{length-set}
 use Rattle.numbers.specs.Lists.{list_below}
+use Rattle.numbers.specs.Refusals.{answered}
 use Rattle.numbers.proofs.Counts.{filled_more, filled_all}
-use Rattle.rights.specs.declared.Reading.{Reading}
-use Rattle.rights.specs.Layout.{record_count, right_at, is_good, reading}
+use Rattle.rights.specs.declared.Right.{Right}
+use Rattle.rights.specs.Layout.{record_count, right_at, is_good, read_refusal}
 use Rattle.rights.specs.Faults.{file_refusal, is_unpriced}
 use Rattle.rights.proofs.Faults.{clear_length, clear_record}
-use Rattle.rights.proofs.Readings.{read_good}
+use Rattle.rights.proofs.Readings.{answered_good}
 use Rattle.target.specs.Target.{row_cents, row_at}
+use Rattle.target.proofs.Answered.{read_right}
 use Rattle.target.proofs.right_rows.write_rows.Goals as goal
-
--- what the read of a record gives is the file's
-right_is : (prices : ℕ) (file : List ℕ) (number : ℕ) (r : Reading) → file_refusal prices file ≡ 0 → number < record_count file
-    → r ≡ reading file number → r.right ≡ right_at file number
-right_is prices file number r clear inside is =
-    ap (λ (r : Reading). r.right)
-    (is ∙ read_good file number (clear_length prices file clear) inside (clear_record prices file clear number inside).0)
-
--- and it is good and has its prices
-read_fine : (prices : ℕ) (file : List ℕ) (number : ℕ) (r : Reading) → file_refusal prices file ≡ 0 → number < record_count file
-    → r ≡ reading file number → (is_good r.right ≡ true) × (is_unpriced prices r.right ≡ false)
-read_fine prices file number r clear inside is =
-    let fine = clear_record prices file clear number inside in
-    let same = right_is prices file number r clear inside is in
-    (ap is_good same ∙ fine.0, ap (is_unpriced prices) same ∙ fine.1)
 
 pub loop-number-init : goal.loop-number-init
 unfolding list_below
-loop-number-init c = record { within = omega arith; long = c.requires.2; filled = refl }
+loop-number-init c = refl
 
-pub row_cents-requires : goal.row_cents-requires
-row_cents-requires c =
-    let fine = read_fine _ _ _ _ c.requires.0 (omega (arith, c.loop-number.invariant.long)) c.read-reading.ensures in
-    (fine.0, fine.1, c.requires.1)
+-- of a file without a fault, the read of each record gives its right, which is good and has its prices
+module _ (prices : ℕ) (file : List ℕ) (clear : file_refusal prices file ≡ 0) (number : ℕ) (inside : number < record_count file) where
+  read_given : answered (read_refusal file number) number (right_at file number) ≡ Ok (right_at file number)
+  read_given =
+      answered_good file number (clear_length prices file clear) inside (clear_record prices file clear number inside).0
+
+  read_fine : (right : Right) → answered (read_refusal file number) number (right_at file number) ≡ Ok right
+      → (right ≡ right_at file number) × (is_good right ≡ true) × (is_unpriced prices right ≡ false)
+  read_fine right is =
+      let given = read_right file number (clear_length prices file clear) inside right is in
+      (given.0, given.1, ap (is_unpriced prices) given.0 ∙ (clear_record prices file clear number inside).1)
+
+pub unwrap-right-requires : goal.unwrap-right-requires
+unwrap-right-requires c = rw (c.read.ensures ∙ read_given _ _ c.requires.0 _ (omega arith)) (search rules)
+
+pub invariant_of-row_cents : goal.invariant_of-row_cents
+invariant_of-row_cents c =
+    let right = read_fine _ _ c.requires.0 _ (omega arith) c.unwrap-right.result (sym c.read.ensures ∙ c.unwrap-right.ensures) in
+    record { good = right.1; priced = right.2; tame = c.requires.1 }
 
 pub loop-number-preserved : goal.loop-number-preserved
 loop-number-preserved c =
-    let inside : c.loop-number.number < record_count c.args.rights.now = omega (arith, c.loop-number.invariant.long) in
-    let is = right_is _ _ c.loop-number.number _ c.requires.0 inside c.read-reading.ensures in
-    record {
-      within = omega arith;
-      long = simp length-set c.loop-number.invariant.long;
-      filled = filled_more (row_at c.args.rights.now c.args.prices.now c.args.hour) _ _ _ (omega (arith, c.loop-number.invariant.long))
-          (grind (arith, to_z-of_z, c.row_cents.ensures) ∙ ap (row_cents c.args.prices.now c.args.hour) is)
-          c.loop-number.invariant.filled;
-    }
+    let right = read_fine _ _ c.requires.0 _ (omega arith) c.unwrap-right.result (sym c.read.ensures ∙ c.unwrap-right.ensures) in
+    filled_more (row_at c.args.rights.now c.args.prices.now c.args.hour) _ _ _ (omega arith)
+    (grind (arith, to_z-of_z, c.row_cents.ensures) ∙ ap (row_cents c.args.prices.now c.args.hour) right.0)
+    c.loop-number.invariant
 
 pub returns : goal.returns
 returns c =
-    filled_all (row_at c.args.rights.now c.args.prices.now c.args.hour) _ _ _ (omega arith) (omega (arith, c.loop-number.invariant.long)) c.loop-number.invariant.filled
+    filled_all (row_at c.args.rights.now c.args.prices.now c.args.hour) _ _ _ (omega arith) (omega arith) c.loop-number.invariant

@@ -1,0 +1,51 @@
+// The refusals of all calls, by the words of the table.
+ghost use Rattle.std.specs.Prelude.{◌≡◌};
+
+// Why a call is refused, in the table's order. A bad right and an unpriced node name the record that has the fault.
+#[derive(Clone, Copy, Debug, PartialEq, Eq)]
+pub enum Refusal {
+    SpoiledBook,
+    YearOver,
+    OutOfTurn,
+    WrongLength,
+    WildPrice,
+    WildAmount,
+    BadRight(u64),
+    UnpricedNode(u64),
+    HourTooLarge,
+    CarryFull,
+    WantTooLarge,
+}
+
+impl Refusal {
+    ghost use Rattle.numbers.specs.Refusals.{number_in, record_in};
+
+    // The refusal's number in the table.
+    pub fn number(self) -> u8
+        ensures { result ≡ number_in self }
+    {
+        match self {
+            Refusal::SpoiledBook => 1,
+            Refusal::YearOver => 2,
+            Refusal::OutOfTurn => 3,
+            Refusal::WrongLength => 4,
+            Refusal::WildPrice => 5,
+            Refusal::WildAmount => 6,
+            Refusal::BadRight(_) => 7,
+            Refusal::UnpricedNode(_) => 8,
+            Refusal::HourTooLarge => 9,
+            Refusal::CarryFull => 10,
+            Refusal::WantTooLarge => 11,
+        }
+    }
+
+    // The record that it names, or 0.
+    pub fn record(self) -> u64
+        ensures { result ≡ record_in self }
+    {
+        match self {
+            Refusal::BadRight(record) | Refusal::UnpricedNode(record) => record,
+            _ => 0,
+        }
+    }
+}

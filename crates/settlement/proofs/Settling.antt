@@ -1,0 +1,166 @@
+-- An hour on a book: refused by the rows of every event, by its input or by its size, or settled.
+-- Assumes nothing.
+use Prim.Native.Nat.{ℕ, ◌+◌, ◌≤◌, ◌<◌, ◌^◌}
+use mathlib.Core.Path.{◌≡◌, refl, sym, ap, ap₂, ◌∙◌}
+use mathlib.Core.Bool.{false}
+use mathlib.Core.List.{List}
+use native.Mathlib.Omega.{arith}
+use lib.ListN.{length, get_or}
+use lib.IntN.{ℤ}
+use Rattle.std.proofs.Common.{w64, FitsSigned, to_z, of_z}
+use Rattle.std.proofs.lemmas.Int.{to_z-of_z}
+use Rattle.std.specs.Prelude.{Result, Ok, Err}
+use Rattle.numbers.specs.declared.refusal.Refusal.{Refusal}
+use Rattle.numbers.specs.Limits.{owners, most_cents}
+use Rattle.numbers.specs.Lists.{total}
+use Rattle.numbers.specs.Refusals.{answered, first_refusal}
+use Rattle.numbers.specs.Signs.{positive}
+use Rattle.numbers.proofs.Refusals.{refusal_most, refusal_never, answered_err, answered_ok}
+use Rattle.calendar.specs.Year.{hours_in_year}
+use Rattle.rights.specs.Faults.{faulty_record}
+use Rattle.rights.proofs.Faults.{faulty_other}
+use Rattle.target.specs.Target.{targets}
+use Rattle.settlement.specs.declared.Book.{Book}
+use Rattle.settlement.specs.declared.Event.TheVariants.{Hour}
+use Rattle.settlement.specs.declared.payment.Shares.{Shares}
+use Rattle.settlement.specs.Book.{is_spoiled, all_shortfalls, most_collected}
+use Rattle.settlement.specs.Events.{Call, hour_call, next_targets, hour_wants, hour_charges, hour_fund, wants, fund, demand, hour_lines, lines, book_after_hour, book_after, event_rows, input_rows, size_rows, refusal, record_of, result_of, Answered}
+use Rattle.settlement.specs.InnerContracts.{shares_of}
+use Rattle.settlement.proofs.NotSpoiled.{shortfalls_within, surplus_within}
+use Rattle.settlement.proofs.LineSigns.{amount_most}
+use Rattle.settlement.proofs.Paying.{payment_small, left_small}
+use Rattle.settlement.proofs.SharingOut.{size_clear}
+use Rattle.settlement.proofs.Refusing.{event_within, event_clear, in_turn, from_event, from_own, calm_amount, own_input, own_size, record_none, refused_answer, accepted_answer}
+
+-- what the rows of every event, the hour's input and its size answer
+abbrev event_answer : Book → ℕ → Result (Unit {0}) Refusal
+event_answer book places = answered (first_refusal (event_rows Hour book places)) 0 tt
+
+abbrev input_answer : List ℕ → List ℤ → ℕ → ℤ → Result (List ℤ) Refusal
+input_answer file prices hour collected =
+    answered (first_refusal (input_rows file prices collected))
+    (faulty_record (length prices) file (first_refusal (input_rows file prices collected)))
+    (targets file prices hour)
+
+abbrev size_answer : Book → ℕ → List ℤ → Result Shares Refusal
+size_answer book collected found =
+    answered (first_refusal (size_rows book (hour_fund collected found) (hour_wants found) (hour_charges found))) 0
+    (shares_of book collected found)
+
+-- a book whose hour the rows of every event let pass, and as many lines as it needs
+pub record Begun (book : Book) (lent : List ℤ) : Type 0 where
+  pub none : first_refusal (event_rows Hour book (length lent)) ≡ 0
+  pub sound : is_spoiled book ≡ false
+  pub inside : book.hours < hours_in_year
+  pub long : length lent ≡ owners
+
+pub begun : (book : Book) (lent : List ℤ) {outcome : Result (Unit {0}) Refusal} {done : Unit {0}}
+    → outcome ≡ event_answer book (length lent) → outcome ≡ Ok done → Begun book lent
+begun book lent is ok =
+    let none = (answered_ok _ 0 tt (sym is ∙ ok)).0 in
+    let clear = event_clear Hour book (length lent) none in
+    record { none = none; sound = clear.0; inside = (in_turn book clear.2).1; long = clear.3 }
+
+-- that its input lets pass too: its targets, and the amount collected
+pub record Aimed (file : List ℕ) (prices : List ℤ) (collected : ℤ) (book : Book) (lent : List ℤ) (found : List ℤ) (amount : ℕ) : Type 0 where
+  pub start : Begun book lent
+  pub given : first_refusal (input_rows file prices collected) ≡ 0
+  pub found_is : found ≡ next_targets file prices book
+  pub amount_is : amount ≡ positive collected
+
+-- and its size: its shares
+pub record Dealt (file : List ℕ) (prices : List ℤ) (collected : ℤ) (book : Book) (lent : List ℤ) (found : List ℤ) (amount : ℕ) (shares : Shares) : Type 0 where
+  pub aim : Aimed file prices collected book lent found amount
+  pub fits : first_refusal (size_rows book (hour_fund amount found) (hour_wants found) (hour_charges found)) ≡ 0
+  pub shares_are : shares ≡ shares_of book amount found
+
+module _ (file : List ℕ) (prices : List ℤ) (collected : ℤ) (book : Book) (lent : List ℤ) where
+  abbrev event : Call
+  event = hour_call file prices collected
+
+  -- refused by the rows of every event, which names no record
+  pub refused_early : {outcome : Result (Unit {0}) Refusal} {why : Refusal} → outcome ≡ event_answer book (length lent) → outcome ≡ Err why
+      → Answered event book lent (result_of (Err why) book) lent
+  refused_early is err =
+      let refused = sym is ∙ err in
+      let most = refusal_most 1 4 (event_rows Hour book (length lent)) (event_within Hour book (length lent)) in
+      refused_answer event book lent _ 0 tt refused
+      (from_event event book (length lent) (λ none. omega (arith, (answered_err _ 0 tt refused).0)))
+      (sym (record_none event _ (omega arith)))
+
+  -- the code's amount is read back from its bits
+  module _ (start : Begun book lent) (fits : FitsSigned w64 collected) {outcome : Result (List ℤ) Refusal} (is : outcome ≡ input_answer file prices book.hours (to_z w64 (of_z w64 collected))) where
+    asked : outcome ≡ input_answer file prices book.hours collected
+    asked = is ∙ ap (input_answer file prices book.hours) (to_z-of_z w64 _ fits)
+
+    -- refused by its input
+    pub refused_input : {why : Refusal} → outcome ≡ Err why → Answered event book lent (result_of (Err why) book) lent
+    unfolding record_of
+    refused_input err =
+        let refused = sym asked ∙ err in
+        refused_answer event book lent _ _ _ refused
+        (own_input file prices collected book (λ none. omega (arith, (answered_err _ _ _ refused).0))
+        ∙ sym (from_own event book (length lent) start.none))
+        refl
+
+    pub aimed : {found : List ℤ} {amount : ℕ} → outcome ≡ Ok found → amount ≡ positive (to_z w64 (of_z w64 collected))
+        → Aimed file prices collected book lent found amount
+    aimed ok a =
+        let given = answered_ok _ _ _ (sym asked ∙ ok) in
+        record { start = start; given = given.0; found_is = given.1; amount_is = a ∙ ap positive (to_z-of_z w64 _ fits) }
+
+-- an hour with its targets
+module _ {file : List ℕ} {prices : List ℤ} {collected : ℤ} {book : Book} {lent : List ℤ} {found : List ℤ} {amount : ℕ} (aim : Aimed file prices collected book lent found amount) where
+  pub may_share : (all_shortfalls book ≤ most_cents) × (amount ≤ most_collected)
+  may_share =
+      let most = amount_most collected (calm_amount file prices collected aim.given) in
+      (shortfalls_within book aim.start.sound, omega (arith, aim.amount_is))
+
+  abbrev size : ℕ
+  size = first_refusal (size_rows book (hour_fund amount found) (hour_wants found) (hour_charges found))
+
+  size_is : size ≡ refusal (hour_call file prices collected) book (length lent)
+  unfolding fund wants
+  size_is =
+      ap₂ (λ (x : ℕ) (ts : List ℤ). first_refusal (size_rows book (hour_fund x ts) (hour_wants ts) (hour_charges ts))) aim.amount_is aim.found_is
+      ∙ sym (from_own (hour_call file prices collected) book (length lent) aim.start.none ∙ own_size file prices collected book aim.given)
+
+  size_names : 0 ≡ record_of (hour_call file prices collected) size
+  unfolding record_of size_rows
+  size_names = sym (faulty_other _ _ _ (λ e. refusal_never 7 _ (omega arith) refl e) (λ e. refusal_never 8 _ (omega arith) refl e))
+
+  module _ {outcome : Result Shares Refusal} (is : outcome ≡ size_answer book amount found) where
+    -- refused by its size
+    pub refused_size : {why : Refusal} → outcome ≡ Err why
+        → Answered (hour_call file prices collected) book lent (result_of (Err why) book) lent
+    refused_size err = refused_answer (hour_call file prices collected) book lent _ 0 _ (sym is ∙ err) size_is size_names
+
+    pub dealt : {shares : Shares} → outcome ≡ Ok shares → Dealt file prices collected book lent found amount shares
+    dealt ok = let shared = answered_ok _ 0 _ (sym is ∙ ok) in record { aim = aim; fits = shared.0; shares_are = shared.1 }
+
+-- an hour with its shares
+module _ {file : List ℕ} {prices : List ℤ} {collected : ℤ} {book : Book} {lent : List ℤ} {found : List ℤ} {amount : ℕ} {shares : Shares} (deal : Dealt file prices collected book lent found amount shares) where
+  small : (total (hour_wants found) ≤ most_cents) × (hour_charges found ≤ most_cents)
+  small = let clear = size_clear _ _ _ _ deal.fits in (clear.0, clear.1)
+
+  pub may_write : (length lent ≡ owners) × ((i : ℕ) → get_or shares.payments i 0 ≤ most_cents)
+  may_write = (deal.aim.start.long, λ i. rw deal.shares_are (payment_small _ _ most_cents small.0 i))
+
+  pub has_room : (book.hours + 1 < 2 ^ 64) × (book.monthsurplus + book.yearsurplus + shares.left < 2 ^ 64)
+  has_room =
+      let inside = deal.aim.start.inside in
+      let rest = ap (λ (x : Shares). x.left) deal.shares_are in
+      let part = left_small (hour_fund amount found) (hour_wants found) in
+      let before = surplus_within book deal.aim.start.sound in
+      (omega arith, omega (arith, small.1, (may_share deal.aim).1))
+
+  pub settled_hour : {after : List ℤ} {next : Book} → after ≡ hour_lines found shares.payments
+      → next ≡ book_after_hour book shares.monthshort shares.left
+      → Answered (hour_call file prices collected) book lent (result_of (Ok shares.funding) next) after
+  unfolding fund demand wants lines book_after
+  settled_hour written b =
+      let shared = deal.shares_are ∙ ap₂ (shares_of book) deal.aim.amount_is deal.aim.found_is in
+      accepted_answer (hour_call file prices collected) book lent _ _ _ (sym (size_is deal.aim) ∙ deal.fits)
+      (ap (λ (x : Shares). x.funding) shared)
+      (b ∙ ap (λ (x : Shares). book_after_hour book x.monthshort x.left) shared)
+      (written ∙ ap₂ hour_lines deal.aim.found_is (ap (λ (x : Shares). x.payments) shared))

@@ -1,0 +1,87 @@
+// The events on a book in place. A refused one leaves the book and the lines as they were.
+ghost use Rattle.std.specs.Prelude.{◌<◌, ◌≡◌, length};
+ghost use Rattle.numbers.specs.Refusals.{answered, first_refusal};
+ghost use Rattle.calendar.specs.Year.{hours_in_year};
+ghost use Rattle.rights.specs.Faults.{faulty_record};
+ghost use Rattle.target.specs.Target.{targets};
+ghost use Rattle.settlement.specs.Events.{hour_call, input_rows, is_wild_amount, result_of, Answered};
+ghost use Rattle.settlement.specs.InnerContracts.{is_before_amount};
+ghost use Rattle.settlement.specs.Ends.{end_call};
+
+use crate::{Book, End, Event, Funding, MOST_COLLECTED, cells, lines, payment, refusals};
+use numbers::{OWNERS, Refusal};
+
+impl Book {
+    // Settles the next hour.
+    pub(crate) fn settle_hour(
+        &mut self,
+        rights: &[u8],
+        prices: &[i32],
+        collected: i64,
+        lines: &mut [i64],
+    ) -> Result<Funding, Refusal>
+        ensures { Answered (hour_call rights.now prices.now collected) self.old lines.old (result_of result self.new) lines.new }
+    {
+        refusals::of_event(self, Event::Hour, lines.len())?;
+        let targets = hour_targets(rights, prices, self.hours, collected)?;
+        let shares = payment::share_out(self, numbers::positive_part(collected), &targets)?;
+        lines::write_hour(&targets, &shares.payments, lines);
+        self.after_hour(shares.monthshort, shares.left);
+        Ok(shares.funding)
+    }
+
+    // Pays the shortfalls of a month or of the year from its surplus.
+    pub(crate) fn pay_short(&mut self, end: End, lines: &mut [i64]) -> Result<Funding, Refusal>
+        ensures { Answered (end_call end) self.old lines.old (result_of result self.new) lines.new }
+    {
+        refusals::of_event(self, end.into(), lines.len())?;
+        match end {
+            End::Month => {
+                let paid = payment::close(self.monthsurplus, &self.monthshort, lines);
+                let cells = cells::added(&self.yearshort, &paid.unpaid);
+                self.after_month(cells, paid.left);
+                Ok(paid.funding)
+            }
+            End::Year => {
+                let paid = payment::close(self.yearsurplus, &self.yearshort, lines);
+                self.after_year(paid.unpaid, paid.left);
+                Ok(paid.funding)
+            }
+        }
+    }
+}
+
+// The targets of an hour, or the refusal that its rights, prices and amount call for.
+fn hour_targets(
+    rights: &[u8],
+    prices: &[i32],
+    hour: u64,
+    collected: i64,
+) -> Result<[i64; OWNERS], Refusal>
+    requires { hour < hours_in_year }
+    ensures { result ≡ answered (first_refusal (input_rows rights.now prices.now collected)) (faulty_record (length prices.now) rights.now (first_refusal (input_rows rights.now prices.now collected))) (targets rights.now prices.now hour) }
+{
+    let mut targets = [0i64; OWNERS];
+    let outcome = target::targets(rights, prices, hour, &mut targets);
+    if is_wild_amount(collected) & !is_before_amount(outcome) {
+        return Err(Refusal::WildAmount);
+    }
+    outcome?;
+    Ok(targets)
+}
+
+// Whether a target call is refused by what comes before a wild amount in the table.
+fn is_before_amount(outcome: Result<(), Refusal>) -> bool
+    ensures { result ≡ is_before_amount outcome }
+{
+    match outcome {
+        Ok(()) => false,
+        Err(refusal) => refusal.number() < Refusal::WildAmount.number(),
+    }
+}
+
+fn is_wild_amount(collected: i64) -> bool
+    ensures { result ≡ is_wild_amount collected }
+{
+    (collected < 0) | (MOST_COLLECTED < collected)
+}

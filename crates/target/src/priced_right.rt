@@ -1,0 +1,91 @@
+// A right beside the prices of an hour: its row, and what its owner's sum comes to with it.
+ghost use Rattle.std.specs.Prelude.{◌≡◌, false, true, ◌+◌, ◌*◌, ◌^◌, ◌≤◌, ◌<◌, get_or, length, set, nat_abs, pos, ◌+ℤ◌};
+ghost use Rattle.rights.specs.Layout.{is_good, most_size};
+ghost use Rattle.rights.specs.Faults.{is_unpriced};
+ghost use Rattle.target.specs.Rounding.{round_tenths};
+ghost use Rattle.target.specs.InnerContracts.{half_cent};
+ghost use Rattle.target.specs.Target.{any_wild, counted, live_cents, most_price, row_cents, tenths};
+
+use calendar::OperatingHour;
+use numbers::OWNERS;
+use rights::{Kind, Right};
+
+// A good right whose two nodes are among the prices, none of which is wild.
+#[derive(Clone, Copy)]
+pub(crate) struct PricedRight<'a> {
+    pub(crate) right: Right,
+    pub(crate) prices: &'a [i32],
+    ghost good: { is_good right ≡ true },
+    ghost priced: { is_unpriced (length prices.now) right ≡ false },
+    ghost tame: { any_wild prices.now ≡ false },
+}
+
+impl<'a> PricedRight<'a> {
+    // Adds the right's cents to its owner's sum; one that is not live leaves the sums as they are.
+    #[tactic(auto, using(crate::proofs::Cents::row_live))]
+    pub(crate) fn add_to(&self, sums: &mut [i64; OWNERS], hour: OperatingHour)
+        requires { nat_abs (get_or sums.old self.now.right.owner (pos 0)) + nat_abs (row_cents self.now.prices.now hour self.now.right) < 2 ^ 63 }
+        ensures { sums.new ≡ set sums.old self.now.right.owner (get_or sums.old self.now.right.owner (pos 0) +ℤ row_cents self.now.prices.now hour self.now.right) }
+    {
+        if rights::is_live(self.right, hour) {
+            sums[self.right.owner as usize] += self.live_cents();
+        }
+    }
+
+    // The right's cents in an hour, 0 where it is not live.
+    #[tactic(auto, using(crate::proofs::Cents::row_live, crate::proofs::Cents::row_not_live))]
+    pub(crate) fn row_cents(&self, hour: OperatingHour) -> i64
+        ensures { result ≡ row_cents self.now.prices.now hour self.now.right }
+    {
+        if rights::is_live(self.right, hour) {
+            self.live_cents()
+        } else {
+            0
+        }
+    }
+
+    // A live right's cents.
+    #[tactic(auto, using(crate::proofs::Cents::tenths_most), unfolding(crate::specs::Target::live_cents))]
+    fn live_cents(&self) -> i64
+        ensures { result ≡ live_cents self.now.prices.now self.now.right }
+    {
+        nearest_cent(self.tenths())
+    }
+
+    // Size times spread: tenths of a cent.
+    fn tenths(&self) -> i64
+        ensures { result ≡ tenths self.now.prices.now self.now.right }
+    {
+        let sink = self.prices[self.right.sink as usize];
+        let source = self.prices[self.right.source as usize];
+        let gain = counted_gain(self.right.kind, i64::from(sink) - i64::from(source));
+        i64::from(self.right.size) * gain
+    }
+}
+
+// An option's negative spread counts as 0.
+fn counted_gain(kind: u8, gain: i64) -> i64
+    ensures { result ≡ counted kind gain }
+{
+    if kind == Kind::Option as u8 {
+        gain.max(0)
+    } else {
+        gain
+    }
+}
+
+// `round_tenths` for the tenths of one right, which are few enough that half a cent can be added first: one division in place of two.
+fn nearest_cent(tenths: i64) -> i64
+    requires { nat_abs tenths ≤ most_size * (most_price + most_price) }
+    ensures { result ≡ round_tenths tenths }
+{
+    (tenths + half_cent(tenths)) / 10
+}
+
+// Half a cent in tenths, with the sign of a number. Both ends are constants, so that the compiler makes no branch: a spread's sign cannot be
+// foreseen.
+fn half_cent(tenths: i64) -> i64
+    ensures { result ≡ half_cent tenths }
+{
+    if tenths < 0 { -5 } else { 5 }
+}
