@@ -47,6 +47,7 @@ module _ (file : List ℕ) (given : ℕ → Given) (next : ℕ → ℕ) (run : I
           number = λ n inside. (at n inside).number
               ∙ ap (λ (none : Bool). cond none 0 (reading file n).refusal) (finished_inside file n right inside);
           right = λ n inside. (at n inside).right;
+          faulty = λ n inside. (at n inside).faulty;
           gives = λ n inside. (at n inside).none ∙ finished_inside file n right inside;
           finished = λ n past. (run.steps n).none ∙ finished_past file (next n) right (stays_on n past);
         }

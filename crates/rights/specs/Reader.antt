@@ -61,5 +61,6 @@ pub record IsReading (file : List ℕ) (given : ℕ → Given) (next : ℕ → �
 pub record IsWholeReading (file : List ℕ) (given : ℕ → Given) : Type 0 where
   pub number : (step : ℕ) → step < record_count file → given_number (given step) ≡ (reading file step).refusal
   pub right : (step : ℕ) → step < record_count file → given_right (given step) ≡ (reading file step).right
+  pub faulty : (step : ℕ) → step < record_count file → given_faulty (given step) ≡ cond (eqb (reading file step).refusal 7) step 0
   pub gives : (step : ℕ) → step < record_count file → says_none (given step) ≡ false
   pub finished : (step : ℕ) → record_count file ≤ step → says_none (given step) ≡ true
