@@ -7,7 +7,7 @@ import re
 import subprocess
 from collections import defaultdict
 
-FUNCTION = re.compile(r'^( *)(pub(?:\([a-z]+\))? )?(extern "C" )?fn (\w+)[^(]*\((.*?)\)(?: -> ([^\n{]+))?\n(.*?)^\1\{\n(.*?)^\1\}', re.M | re.S)
+FUNCTION = re.compile(r'^( *)(pub(?:\([a-z]+\))? )?(extern "C" )?fn (\w+)[^(]*\((.*?)\)(?: -> ([^\n{]+?))?(?: \{\n|\n(.*?)^\1\{\n)(.*?)^\1\}', re.M | re.S)
 STRUCT = re.compile(r"^( *)(?:pub(?:\([a-z]+\))? )?struct (\w+)[^{;]*\{\n(.*?)^\1\}", re.M | re.S)
 NUMBERED = re.compile(r"\b(refusal|fault|faulty|wrong|none|full|tag|letter|kind|class): (u8|u64|usize|bool)\b")
 
@@ -21,7 +21,7 @@ def functions(files):
     for name, text in files.items():
         for found in FUNCTION.finditer(text):
             params = [p.strip() for p in re.split(r",\s*(?![^<\[(]*[>\])])", found[5]) if p.strip()]
-            yield {"name": f"{name} {found[4]}", "params": params, "result": (found[6] or "").strip(), "contract": found[7], "body": found[8]}
+            yield {"name": f"{name} {found[4]}", "params": params, "result": (found[6] or "").strip(), "contract": found[7] or "", "body": found[8]}
 
 
 def numbers_for_kinds(files):

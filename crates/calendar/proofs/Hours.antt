@@ -72,10 +72,6 @@ pub hour_inside : (hour : ℕ) → hour < hours_in_year → operating_hour hour 
 unfolding operating_hour
 hour_inside hour inside = rw (refusal_inside hour inside)
 
-pub hour_outside : (hour : ℕ) → hours_in_year ≤ hour → operating_hour hour ≡ record { day = 0; month = 0; peak = false }
-unfolding operating_hour
-hour_outside hour outside = rw (refusal_outside hour outside)
-
 -- a calendar call is refused by 3 alone
 pub calendar_most : (hour : ℕ) → calendar_refusal hour ≤ 3
 unfolding calendar_refusal

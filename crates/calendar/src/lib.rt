@@ -2,7 +2,7 @@
 
 #![tactic(auto)]
 
-ghost use Rattle.std.specs.Prelude.{◌≡◌, ◌<◌, ◌&&◌, eqb, leb};
+ghost use Rattle.std.specs.Prelude.{◌≡◌, ◌<◌, ◌&&◌, leb};
 ghost use Rattle.numbers.specs.Refusals.{answered};
 ghost use Rattle.calendar.specs.Year.{calendar_refusal, day_entry, days_in_year, is_month_end, month_end, operating_hour};
 
@@ -39,29 +39,32 @@ pub fn operating_hour(hour: u64) -> Result<OperatingHour, Refusal>
     }
     let before = hour / 24;
     let entry = day_entry(before);
+    // By `as`: the day is at most 365, and `try_from` would add a case that cannot come.
     Ok(OperatingHour {
         day: (before + 1) as u16,
         month: entry / 2,
-        peak: peak_in(entry % 2, hour % 24),
+        peak: peak_in(entry % 2 == 1, hour % 24),
     })
 }
 
-// The table's entry of the day that has this many days before it.
+// The table's entry of the day that has this many days before it. One number for month and working day: 365 entries with two fields each
+// would be no plainer to lay beside the calendar.
 fn day_entry(before: u64) -> u8
     requires { before < days_in_year }
     ensures { result ≡ day_entry before }
 {
+    // By `as`, here and in `month_end`: there is no `From` from 64 bits to an index.
     days::DAYS[before as usize]
 }
 
-// Whether an hour of a day, counted from 0, is peak, if 1 stands for a working day.
-fn peak_in(working: u8, clock: u64) -> bool
-    ensures { result ≡ (eqb working 1 && (leb 6 clock && leb clock 21)) }
+// Whether an hour of a day, counted from 0, is peak.
+fn peak_in(working: bool, clock: u64) -> bool
+    ensures { result ≡ (working && (leb 6 clock && leb clock 21)) }
 {
-    (working == 1) & ((6 <= clock) & (clock <= 21))
+    working & ((6 <= clock) & (clock <= 21))
 }
 
-// The hours after which a month ends; 0 where there is no such month.
+// The hours after which a month ends; 0 where there is no such month, as the definition has it: a call that could not fail still cannot.
 pub fn month_end(month: u64) -> u64
     ensures { result ≡ month_end month }
 {

@@ -35,7 +35,7 @@ fn main(rt: HostRuntime) -> ExitCode {
     let file = read_rights(&rt, &mut room);
     let rights = file.unwrap_or(&[]);
     let mut statement = Statement {
-        run: settlement_run::opening(file.is_some(), rights.len()),
+        run: settlement_run::opening(file.map(|bytes| bytes.len())),
         text: [0u8; TEXT_ROOM],
     };
     match statement.print(&mut rt.stdin(), &mut rt.stdout(), rights) {

@@ -14,7 +14,7 @@ use Rattle.std.specs.Prelude.{Ok, Err}
 use Rattle.numbers.specs.Limits.{nodes}
 use Rattle.numbers.specs.declared.refusal.Refusal.{Refusal}
 use Rattle.numbers.specs.declared.refusal.Refusal.TheVariants.{WrongLength}
-use Rattle.numbers.specs.Refusals.{answered, number_in, refusal_of}
+use Rattle.numbers.specs.Refusals.{answered, refusal_of}
 use Rattle.numbers.proofs.Refusals.{refusal_here, refusal_next, refusal_none, answer_accepted, answer_refused}
 use Rattle.hour_block.specs.Block.{hour_bytes, amount_in, prices_in, decode_refusal, decoded, prices_after}
 
@@ -86,17 +86,12 @@ either_number bytes places = by_test (not (eqb bytes hour_bytes) || not (eqb pla
     by_test true wrong = inr (refusal_here 4 [] wrong)
     by_test false right = inl (refusal_next 4 [] right ∙ refusal_none)
 
--- with a refusal: its word, and its number
+-- with a refusal: its number, and its word
 pub decoded_refused : (block : List ℕ) (places : ℕ) (refusal : Refusal) → Err refusal ≡ decoded block places
     → (decode_refusal (length block) places ≡ 4) × (refusal ≡ WrongLength)
 unfolding decoded
 decoded_refused block places refusal is =
     refused_as (decode_refusal (length block) places) (amount_in block) refusal (either_number (length block) places) is
-
-pub decoded_number : (block : List ℕ) (places : ℕ) (refusal : Refusal) → Err refusal ≡ decoded block places
-    → number_in refusal ≡ decode_refusal (length block) places
-decoded_number block places refusal is =
-    let refused = decoded_refused block places refusal is in ap number_in refused.1 ∙ sym refused.0
 
 -- with an amount: that of the block, which is not refused
 pub decoded_amount : (block : List ℕ) (places : ℕ) (amount : ℤ) → Ok amount ≡ decoded block places

@@ -32,6 +32,8 @@ fn write_prices(block: &[u8], prices: &mut [i32])
     ensures { prices.new ≡ prices_in block.now }
 {
     let (words, _) = block[8..].as_chunks::<4>();
+    // By index: tried with `prices.iter_mut().zip(words)`, of which no contract says what the prices end as, so the proof did not close.
+    // By `prices.iter_mut().enumerate()` the words would be by index in their place: no plainer.
     for (node, word) in words.iter().enumerate() {
         prices[node] = i32::from_le_bytes(*word);
     }

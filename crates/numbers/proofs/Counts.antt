@@ -11,7 +11,7 @@ use native.Mathlib.Decide.{ℕ_discrete}
 use native.Mathlib.Omega.{arith}
 use lib.Dec.{ltb}
 use lib.ListN.{length, get_or, take, drop, set, length-append, get_or-append, get_or-eq_default}
-use lib.Seq.{get_or_at, get_or-take, take_all, take-suc-set, drop-cons, ext_get_or}
+use lib.Seq.{get_or_at, take_all, take-suc-set, drop-cons, ext_get_or}
 use borrow.Author.Tests.{ltb-true, ltb-false, lt-ltb}
 use Rattle.std.specs.Array.{IsFromFnResult, IsFromFnResultFrom}
 use denote.Param.Members.{Mut, Called}
@@ -114,6 +114,10 @@ list_below_get_or xs d =
     (length_list_below _ _)
     (λ i l. get_or_list_below (λ i. get_or xs i d) (length xs) d i (rw length_list_below at l))
 
+-- of any list by the number of its elements
+pub list_of_elements : {A : Type 0} (xs : List A) (d : A) {n : ℕ} → length xs ≡ n → list_below (λ i. get_or xs i d) n ≡ xs
+list_of_elements xs d all = ap (list_below (λ i. get_or xs i d)) (sym all) ∙ list_below_get_or xs d
+
 -- functions that agree below n give one list
 pub list_below_ext : {A : Type 0} (f g : ℕ → A) (n : ℕ) → ((i : ℕ) → i < n → f i ≡ g i) → list_below f n ≡ list_below g n
 unfolding list_below
@@ -121,13 +125,7 @@ list_below_ext f g zero h = refl
 list_below_ext {A} f g (suc n) h =
     ap₂ (λ (l : List A) (a : A). l ++ (a ∷ [])) (list_below_ext f g n (λ i l. h i (omega arith))) (h n (omega arith))
 
--- a list filled from the front by f is so at each place passed
-pub get_or_filled : {A : Type 0} (f : ℕ → A) (xs : List A) (n : ℕ) (d : A) → take n xs ≡ list_below f n → (i : ℕ) → i < n
-    → get_or xs i d ≡ f i
-get_or_filled {A} f xs n d e i l =
-    sym (get_or-take n xs i d l) ∙ ap (λ (ys : List A). get_or ys i d) e ∙ get_or_list_below f n d i l
-
--- and one place more, after a store there
+-- a list filled from the front by f, and one place more, after a store there
 pub filled_more : {A : Type 0} (f : ℕ → A) (xs : List A) (i : ℕ) (a : A) → i < length xs → a ≡ f i → take i xs ≡ list_below f i
     → take (i + 1) (set xs i a) ≡ list_below f (i + 1)
 unfolding list_below
@@ -138,32 +136,32 @@ pub filled_all : {A : Type 0} (f : ℕ → A) (xs : List A) (i n : ℕ) → leng
     → xs ≡ list_below f n
 filled_all f xs i n l at_end e = sym (take_all i xs l) ∙ e ∙ ap (λ (m : ℕ). list_below f m) at_end
 
--- the sum of two lists in a row
 -- an array made by a function of each index, which keeps what it has captured, is the list of its values
-abbrev pub GivesAt : {F : Type 0} → Mut F (ℕ × Unit {0}) ℕ → F → (ℕ → ℕ) → ℕ → Type 0
-GivesAt {F} g f value i = (q : F) (x : ℕ) → Called g f (i, tt) x q → (q ≡ f) × (x ≡ value i)
+abbrev pub GivesAt : {F A : Type 0} → Mut F (ℕ × Unit {0}) A → F → (ℕ → A) → ℕ → Type 0
+GivesAt {F} {A} g f value i = (q : F) (x : A) → Called g f (i, tt) x q → (q ≡ f) × (x ≡ value i)
 
-from_each : {F : Type 0} (g : Mut F (ℕ × Unit {0}) ℕ) (f : F) (xs : List ℕ) (value : ℕ → ℕ) (n i : ℕ) (p : F) → p ≡ f
+from_each : {F A : Type 0} (g : Mut F (ℕ × Unit {0}) A) (f : F) (d : A) (xs : List A) (value : ℕ → A) (n i : ℕ) (p : F) → p ≡ f
     → ((k : ℕ) → i ≤ k → k < i + n → GivesAt g f value k) → IsFromFnResultFrom g p xs i n
-    → (k : ℕ) → i ≤ k → k < i + n → get_or xs k 0 ≡ value k
-from_each g f xs value zero i p is gives made k from below = absurd (omega arith)
-from_each {F} g f xs value (suc n) i p is gives made k from below =
-    by_here (ℕ_discrete k i) (from_each g f xs value n (i + 1) made.0 here.0 (λ m above under. gives m (omega arith) (omega arith)) made.4 k)
+    → (k : ℕ) → i ≤ k → k < i + n → get_or xs k d ≡ value k
+from_each g f d xs value zero i p is gives made k from below = absurd (omega arith)
+from_each {F} g f d xs value (suc n) i p is gives made k from below =
+    by_here (ℕ_discrete k i) (from_each g f d xs value n (i + 1) made.0 here.0 (λ m above under. gives m (omega arith) (omega arith)) made.4 k)
   where
     here : (made.0 ≡ f) × (made.1 ≡ value i)
     here = gives i (omega arith) (omega arith) made.0 made.1 (subst (λ (s : F). Called g s (i, tt) made.1 made.0) is made.3)
 
-    by_here : Dec (k ≡ i) → (i + 1 ≤ k → k < i + 1 + n → get_or xs k 0 ≡ value k) → get_or xs k 0 ≡ value k
-    by_here (yes e) rest = ap (λ (m : ℕ). get_or xs m 0) e ∙ made.2.1 0 ∙ here.1 ∙ ap value (sym e)
+    by_here : Dec (k ≡ i) → (i + 1 ≤ k → k < i + 1 + n → get_or xs k d ≡ value k) → get_or xs k d ≡ value k
+    by_here (yes e) rest = ap (λ (m : ℕ). get_or xs m d) e ∙ made.2.1 d ∙ here.1 ∙ ap value (sym e)
     by_here (no other) rest = rest (omega arith) (omega arith)
 
-pub list_from_fn : {F : Type 0} {g : Mut F (ℕ × Unit {0}) ℕ} {f : F} {xs : List ℕ} {n : ℕ} (value : ℕ → ℕ)
+pub list_from_fn : {F A : Type 0} {g : Mut F (ℕ × Unit {0}) A} {f : F} {xs : List A} {n : ℕ} (value : ℕ → A)
     → IsFromFnResult g f xs n → ((i : ℕ) → i < n → GivesAt g f value i) → xs ≡ list_below value n
 list_from_fn {g = g} {f = f} {xs = xs} {n = n} value made gives =
-    sym (list_below_get_or xs 0)
-    ∙ ap (list_below (λ i. get_or xs i 0)) made.long
-    ∙ list_below_ext _ _ n (λ i inside. from_each g f xs value n 0 f refl (λ k from below. gives k (omega arith)) made.each i (omega arith) (omega arith))
+    sym (list_below_get_or xs (value 0))
+    ∙ ap (list_below (λ i. get_or xs i (value 0))) made.long
+    ∙ list_below_ext _ _ n (λ i inside. from_each g f (value 0) xs value n 0 f refl (λ k from below. gives k (omega arith)) made.each i (omega arith) (omega arith))
 
+-- the sum of two lists in a row
 pub total_append : (xs ys : List ℕ) → total (xs ++ ys) ≡ total xs + total ys
 unfolding total
 total_append [] ys = omega arith

@@ -8,7 +8,8 @@ use mathlib.Core.List.{List, [], ◌∷◌, ◌++◌}
 use native.Mathlib.Decide.{ℕ_discrete}
 use native.Mathlib.Omega.{arith}
 use lib.Dec.{leb, eqb}
-use borrow.Author.Tests.{leb-true, le-leb, eqb-false, eqb-true, not-false}
+use lib.ListN.{get_or-eq_default}
+use borrow.Author.Tests.{leb-true, leb-false, le-leb, eqb-false, eqb-true, not-false}
 use Rattle.std.specs.Prelude.{Result, Ok, Err}
 use Rattle.std.specs.Result.{result_unwrap_or}
 use Rattle.numbers.specs.Lists.{any_below}
@@ -178,16 +179,36 @@ number_back (suc n) faulty some within = eqb-true _ _ (not-false _ (any_miss dif
     differs k = not (eqb (number_in (refusal_of (suc k) faulty)) (suc k))
 
 -- and names the record, where the record is 0 in all but 7 and 8
-pub record_back : (number faulty : ℕ) → number ≤ 11 → ((number ≡ 7 → ⊥) → (number ≡ 8 → ⊥) → faulty ≡ 0)
+pub record_back : (number faulty : ℕ) → ((number ≡ 7 → ⊥) → (number ≡ 8 → ⊥) → faulty ≡ 0)
     → record_in (refusal_of number faulty) ≡ faulty
 unfolding any_below
-record_back number faulty within none = by_7 (ℕ_discrete number 7)
+record_back number faulty none = by_7 (ℕ_discrete number 7)
   where
     names : ℕ → Bool
     names n = not (eqb (record_in (refusal_of n 0)) 0)
 
+    rows : List Refusal
+    rows =
+        WantTooLarge
+        ∷ SpoiledBook
+        ∷ YearOver
+        ∷ OutOfTurn
+        ∷ WrongLength
+        ∷ WildPrice
+        ∷ WildAmount
+        ∷ BadRight 0
+        ∷ UnpricedNode 0
+        ∷ HourTooLarge
+        ∷ CarryFull
+        ∷ []
+
     names_none : record_in (refusal_of number 0) ≡ 0
-    names_none = eqb-true _ _ (not-false _ (any_miss names 12 number refl (omega arith)))
+    names_none = by_test (leb 12 number) refl
+      where
+        by_test : (past : Bool) → leb 12 number ≡ past → record_in (refusal_of number 0) ≡ 0
+        by_test true e = let past : 11 ≤ number = omega (arith, leb-true 12 number e) in ap record_in (get_or-eq_default rows WantTooLarge {n = number} past)
+        by_test false e =
+            let inside = leb-false 12 number e in eqb-true _ _ (not-false _ (any_miss names 12 number refl (omega arith)))
 
     by_8 : (number ≡ 7 → ⊥) → Dec (number ≡ 8) → record_in (refusal_of number faulty) ≡ faulty
     by_8 not_7 (yes is) = ap (λ (n : ℕ). record_in (refusal_of n faulty)) is
@@ -238,10 +259,10 @@ module _ {A : Type 0} where
   number_answered zero faulty value within = refl
   number_answered (suc n) faulty value within = number_back (suc n) faulty (omega arith) within
 
-  pub record_answered : (number faulty : ℕ) (value : A) → number ≤ 11 → ((number ≡ 7 → ⊥) → (number ≡ 8 → ⊥) → faulty ≡ 0)
+  pub record_answered : (number faulty : ℕ) (value : A) → ((number ≡ 7 → ⊥) → (number ≡ 8 → ⊥) → faulty ≡ 0)
       → answer_record (answered number faulty value) ≡ faulty
-  record_answered zero faulty value within none = sym (none (λ e. omega arith) (λ e. omega arith))
-  record_answered (suc n) faulty value within none = record_back (suc n) faulty within none
+  record_answered zero faulty value none = sym (none (λ e. omega arith) (λ e. omega arith))
+  record_answered (suc n) faulty value none = record_back (suc n) faulty none
 
   pub value_answered : (number faulty : ℕ) (value other : A)
       → result_unwrap_or (answered number faulty value) other ≡ answer_by number value other

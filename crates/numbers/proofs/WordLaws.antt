@@ -4,16 +4,18 @@
 use Prim.Native.Nat.{ℕ, zero, suc, ◌+◌, ◌-◌, ◌*◌, ◌/◌, ◌%◌, ◌^◌, ◌≤◌, ◌<◌}
 use mathlib.Core.Path.{◌≡◌, refl, sym, ap, ap₂, subst, ◌∙◌}
 use mathlib.Core.Bool.{Bool, true, false}
-use mathlib.Core.List.{List, ◌++◌}
-use native.Mathlib.Nat.{add-zero, add-suc, add_assoc, add_comm, add-mul, add-sub_of_le, mul_assoc, mul_comm, div-div-eq-div-mul, div-one, mod-eq_of_lt, mod-lt, mod-one, one-le-pow, pow-suc, pow-zero, zero-add, zero-lt-suc}
+use mathlib.Core.List.{List, [], ◌++◌}
+use native.Mathlib.Nat.{add-zero, add-suc, add_assoc, add_comm, add-mul, add-sub_of_le, mul_assoc, mul_comm, div-div-eq-div-mul, div-one, mod-eq_of_lt, mod-lt, mod-one, le_of_suc-le-suc, not-suc-le-zero, one-le-pow, pow-suc, pow-zero, zero-add, zero-lt-suc, zero-mul}
 use native.Mathlib.Omega.{arith}
 use lib.Arith.{digits_div, digits_lt, digits_mod, mod-mul}
 use lib.Dec.{leb}
-use lib.ListN.{get_or, length, get_or-append}
+use lib.ListN.{get_or, length, take, drop, get_or-append}
 use lib.Pow.{pow-add}
-use lib.Seq.{get_or-append-add}
+use lib.Seq.{get_or-append-add, get_or-take}
 use borrow.Author.Tests.{leb-true, leb-false}
 use Rattle.std.specs.Int.{from_le_bytes, w32, w64}
+use Rattle.std.specs.Simd.{first_chunks}
+use Rattle.std.proofs.lemmas.List.{get_or-drop, drop-drop}
 use Rattle.numbers.specs.Lists.{list_below}
 use Rattle.numbers.specs.Words.{AreBytes, bytes_of, part_of, word}
 use Rattle.numbers.proofs.Counts.{get_or_beyond, get_or_list_below, length_list_below, list_below_ext}
@@ -33,6 +35,30 @@ word_ext : (xs ys : List ℕ) (a b n : ℕ) → ((i : ℕ) → i < n → get_or 
 word_ext xs ys a b zero agree = refl
 word_ext xs ys a b (suc n) agree =
     ap₂ (λ (low byte : ℕ). low + byte * 256 ^ n) (word_ext xs ys a b n (λ i l. agree i (omega arith))) (agree n (omega arith))
+
+-- a word of the first bytes, and one of the bytes from a place on
+pub word_take : (bytes : List ℕ) (m n at : ℕ) → at + n ≤ m → word n (take m bytes) at ≡ word n bytes at
+word_take bytes m n at inside = word_ext (take m bytes) bytes at at n (λ i l. get_or-take m bytes (at + i) 0 (omega arith))
+
+pub word_drop : (bytes : List ℕ) (from n at : ℕ) → word n (drop from bytes) at ≡ word n bytes (from + at)
+word_drop bytes from n at =
+    word_ext (drop from bytes) bytes at (from + at) n (λ i l. get_or-drop from bytes (at + i) 0 ∙ ap (λ (place : ℕ). get_or bytes place 0) (omega arith))
+
+-- a word within one of the chunks that the library cuts is the word at its place among all bytes
+chunk_at : (bytes : List ℕ) (size count i : ℕ) → i < count → get_or (first_chunks size count bytes) i [] ≡ take size (drop (i * size) bytes)
+chunk_at bytes size zero i inside = absurd (not-suc-le-zero inside)
+chunk_at bytes size (suc count) zero inside = rw (zero-mul size) refl
+chunk_at bytes size (suc count) (suc i) inside =
+    chunk_at (drop size bytes) size count i (le_of_suc-le-suc inside)
+    ∙ ap (take size) (drop-drop (i * size) size bytes ∙ ap (λ (m : ℕ). drop m bytes) (omega arith))
+
+pub chunk_word : (bytes : List ℕ) (size count i : ℕ) → i < count → (n at place : ℕ) → at + n ≤ size → i * size + at ≡ place
+    → word n (get_or (first_chunks size count bytes) i []) at ≡ word n bytes place
+chunk_word bytes size count i inside n at place within here =
+    ap (λ (chunk : List ℕ). word n chunk at) (chunk_at bytes size count i inside)
+    ∙ word_take (drop (i * size) bytes) size n at within
+    ∙ word_drop bytes (i * size) n at
+    ∙ ap (word n bytes) here
 
 -- m bytes, and n bytes above them
 word_join : (bytes : List ℕ) (at m n : ℕ) → word (m + n) bytes at ≡ word n bytes (at + m) * 256 ^ m + word m bytes at

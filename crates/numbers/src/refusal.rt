@@ -1,8 +1,9 @@
 // The refusals of all calls, by the words of the table.
 ghost use Rattle.std.specs.Prelude.{◌≡◌};
 
-// Why a call is refused, in the table's order. A bad right and an unpriced node name the record that has the fault.
-#[derive(Clone, Copy, Debug, PartialEq, Eq)]
+// Why a call is refused, in the table's order, which the derived comparison follows. A bad right and an unpriced node name the record that
+// has the fault.
+#[derive(Clone, Copy, Debug, PartialEq, Eq, PartialOrd, Ord)]
 pub enum Refusal {
     SpoiledBook,
     YearOver,
@@ -20,7 +21,7 @@ pub enum Refusal {
 impl Refusal {
     ghost use Rattle.numbers.specs.Refusals.{number_in, record_in};
 
-    // The refusal's number in the table.
+    // The refusal's number in the table. By hand, since the language gives no number of a variant that holds a record.
     pub fn number(self) -> u8
         ensures { result ≡ number_in self }
     {
@@ -39,7 +40,7 @@ impl Refusal {
         }
     }
 
-    // The record that it names, or 0.
+    // The record that it names, or 0, which the papers write where none is named.
     pub fn record(self) -> u64
         ensures { result ≡ record_in self }
     {

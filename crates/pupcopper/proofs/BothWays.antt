@@ -2,7 +2,7 @@
 -- those words.
 -- Assumes nothing.
 use Prim.Native.Nat.{ℕ, zero, suc, ◌+◌, ◌*◌, ◌/◌, ◌%◌, ◌<◌, ◌≤◌}
-use mathlib.Core.Path.{◌≡◌, refl, sym, ap, ◌∙◌}
+use mathlib.Core.Path.{◌≡◌, refl, ap, ◌∙◌}
 use mathlib.Core.Bool.{Bool, true, false, cond}
 use mathlib.Core.List.{List, [], ◌∷◌}
 use native.Mathlib.Decide.{ℕ_discrete}
@@ -16,15 +16,11 @@ use Rattle.numbers.specs.Limits.{owners}
 use Rattle.numbers.specs.Lists.{list_below}
 use Rattle.numbers.specs.Signs.{positive}
 use Rattle.numbers.proofs.Booleans.{neither_true}
-use Rattle.numbers.proofs.Counts.{get_or_list_below, list_below_get_or, list_below_ext}
+use Rattle.numbers.proofs.Counts.{get_or_list_below, list_of_elements, list_below_ext}
 use Rattle.settlement.specs.declared.Book.{Book}
 use Rattle.pupcopper.specs.BookWords.{BookWords, words_in, shortfall_words, counts_of, cell_at, by_owner, surpluses_of, words_of, surplus_in, cells_from, book_from, mark_in, is_wrong_count, is_wrong_mark, is_overdrawn}
 use Rattle.pupcopper.proofs.Cells.{month_cell, year_cell}
 use Rattle.pupcopper.proofs.WordRows.{Long, long}
-
--- a list is the list of its elements
-elements : {A : Type 0} (xs : List A) (d : A) (n : ℕ) → length xs ≡ n → list_below (λ i. get_or xs i d) n ≡ xs
-elements xs d n all = ap (λ (m : ℕ). list_below (λ i. get_or xs i d) m) (sym all) ∙ list_below_get_or xs d
 
 -- ---- from a book to words and back
 
@@ -38,7 +34,7 @@ module _ (month year : List ℕ) where
       get_or_list_below (cell_at month year) shortfall_words 0 (2 * owner + 0) (omega arith)
       ∙ ap (cell_at month year) same
       ∙ month_cell month year owner)
-      ∙ elements month 0 owners all
+      ∙ list_of_elements month 0 all
 
   year_back : length year ≡ owners → cells_from (by_owner month year) 1 ≡ year
   unfolding cells_from by_owner
@@ -46,7 +42,7 @@ module _ (month year : List ℕ) where
       list_below_ext _ (λ owner. get_or year owner 0) owners
       (λ owner inside.
       get_or_list_below (cell_at month year) shortfall_words 0 (2 * owner + 1) (omega arith) ∙ year_cell month year owner)
-      ∙ elements year 0 owners all
+      ∙ list_of_elements year 0 all
 
 mark_back : (ended : Bool) → eqb (cond ended 1 0) 1 ≡ ended
 mark_back true = refl
@@ -108,15 +104,15 @@ words_back words counted marked drawn =
     counts : counts_of (book_from words) ≡ words.counts
     counts =
         ap (λ (mark : ℕ). get_or words.counts 0 0 ∷ get_or words.counts 1 0 ∷ mark ∷ []) (mark_kept (mark_in words) (ltb-false 1 (mark_in words) marked))
-        ∙ elements words.counts 0 3 sized.counts
+        ∙ list_of_elements words.counts 0 sized.counts
 
     cells : by_owner (cells_from words.shortfalls 0) (cells_from words.shortfalls 1) ≡ words.shortfalls
     cells =
         list_below_ext _ (λ place. get_or words.shortfalls place 0) shortfall_words (cell_back words.shortfalls)
-        ∙ elements words.shortfalls 0 shortfall_words sized.shortfalls
+        ∙ list_of_elements words.shortfalls 0 sized.shortfalls
 
     surpluses : surpluses_of (book_from words) ≡ words.surpluses
     surpluses =
         let good = neither_true (lt_z (surplus_in words 0) (pos 0)) (lt_z (surplus_in words 1) (pos 0)) drawn in
         (λ i. surplus_kept (surplus_in words 0) good.0 i ∷ surplus_kept (surplus_in words 1) good.1 i ∷ [])
-        ∙ elements words.surpluses (pos 0) 2 sized.surpluses
+        ∙ list_of_elements words.surpluses (pos 0) sized.surpluses

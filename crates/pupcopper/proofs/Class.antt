@@ -49,3 +49,6 @@ module _ (hour : ℕ) {outcome : Result OperatingHour Refusal} (answer : outcome
 pub with_peak : (month : ℕ) (peak : Bool) → month ≤ 12 → 2 * month + bool_byte peak < 256
 with_peak month true h = omega arith
 with_peak month false h = omega arith
+
+-- for a refused hour and a given one
+pub ruleset class_laws = (class_refused, class_given, small, with_peak)

@@ -1,8 +1,8 @@
 -- An event over the words of a book: refused by its words, or the event of the book that they stand for.
 -- Assumes nothing.
-use Prim.Native.Nat.{ℕ, ◌^◌, ◌<◌}
+use Prim.Native.Nat.{ℕ, ◌^◌, ◌<◌, ◌≤◌}
 use mathlib.Core.Path.{◌≡◌, refl, sym, ap, subst, ◌∙◌}
-use mathlib.Core.Bool.{Bool, cond}
+use mathlib.Core.Bool.{cond}
 use mathlib.Core.List.{List}
 use native.Mathlib.Decide.{ℕ_discrete}
 use native.Mathlib.Omega.{arith}
@@ -13,24 +13,15 @@ use Rattle.numbers.proofs.Refusals.{answer_accepted, answer_refused}
 use Rattle.std.specs.Prelude.{Result, Ok, Err}
 use Rattle.numbers.specs.declared.refusal.Refusal.{Refusal}
 use Rattle.settlement.specs.declared.Book.{Book}
-use Rattle.settlement.specs.declared.End.{End}
-use Rattle.settlement.specs.declared.End.TheVariants.{Month, Year}
 use Rattle.settlement.specs.declared.Funding.{Funding}
 use Rattle.settlement.specs.declared.Settled.{Settled as Handed}
-use Rattle.settlement.specs.Ends.{end_call}
-use Rattle.settlement.specs.Events.{Settled, in_numbers, result_of, Call, fund, demand, book_after, lines, refusal, record_of, Answered}
-use Rattle.settlement.proofs.Amounts.{small_amounts, records, record_within}
+use Rattle.settlement.specs.Events.{hour_call, month_end_call, year_end_call, Settled, in_numbers, result_of, Call, fund, demand, book_after, lines, refusal, record_of, Answered}
+use Rattle.settlement.proofs.Amounts.{small_amounts, record_within}
 use Rattle.settlement.proofs.Refusing.{record_none, gives_number, gives_record, gives_fund, gives_demand, gives_book_lem}
 use Rattle.pupcopper.specs.BookWords.{BookWords, words_of, book_from}
 use Rattle.pupcopper.specs.Calls.{is_wrong_report, settled_report, settled_words, words_refusal, event_refusal, Settles}
-use Rattle.pupcopper.specs.InnerContracts.{SurplusesFit, ResultFits}
-use Rattle.pupcopper.proofs.WordRows.{words_clear, words_most}
-
--- the event of a book that the words stand for
-pub of_words : (call : Call) (words : BookWords) {book : Book} {lent after : List ℤ} {result : Settled} → book ≡ book_from words
-    → Answered call book lent result after → Answered call (book_from words) lent result after
-of_words call words {lent = lent} {after = after} {result = result} is answered =
-    subst (λ (b : Book). Answered call b lent result after) is answered
+use Rattle.pupcopper.specs.InnerContracts.{bytes_lent, SurplusesFit, ResultFits}
+use Rattle.pupcopper.proofs.WordRows.{words_most}
 
 -- the book of a result is the one that is handed back
 pub book_is : (settled : Handed) → (in_numbers settled).book ≡ settled.book
@@ -40,10 +31,11 @@ book_is settled = by_outcome settled.outcome
     by_outcome (Ok funding) = refl
     by_outcome (Err why) = refl
 
--- the records that a month end and a year end are lent: none
-pub few_at_end : (end : End) → records (end_call end) < 2 ^ 63
-few_at_end Month = omega arith
-few_at_end Year = omega arith
+-- the record that a call names is one of its rights
+record_lent : (call : Call) (number : ℕ) → record_of call number ≤ bytes_lent call
+record_lent (hour_call file prices collected) number = omega (arith, record_within (hour_call file prices collected) number)
+record_lent month_end_call number = record_within month_end_call number
+record_lent year_end_call number = record_within year_end_call number
 
 module _ (call : Call) (words : BookWords) (report lent : List ℤ) where
   abbrev own : ℕ
@@ -97,17 +89,17 @@ module _ (call : Call) (words : BookWords) (report lent : List ℤ) where
         let small = (small_amounts call book (length lent) z).surplus_most in
         subst (λ (b : Book). SurplusesFit b) (sym (book_after_lem z)) (record { month = omega (arith, small); year = omega (arith, small) })
 
-    pub result_fits : records call < 2 ^ 63 → ResultFits result
+    pub result_fits : bytes_lent call < 2 ^ 63 → ResultFits result
     result_fits few =
         record {
-          named = omega (arith, gives_record answered, record_within call own_number);
+          named = omega (arith, gives_record answered, record_lent call own_number);
           paid_from = fund_fits (ℕ_discrete own_number 0);
           wanted = demand_fits (ℕ_discrete own_number 0);
           kept = λ z. surpluses_fit (sym (gives_number answered) ∙ z);
         }
 
     pub settled_event : (number : ℕ) (words_after : BookWords) (report_after : List ℤ) → own ≡ 0 → number ≡ result.refusal
-        → report_after ≡ settled_report result.faulty result.fund result.demand
+        → report_after ≡ cond (is_wrong_report settled_words (length report)) report (settled_report result.faulty result.fund result.demand)
         → words_after ≡ answer_by number (words_of result.book) words
         → Settles call words report lent number words_after report_after lines_after
     unfolding event_refusal
@@ -116,8 +108,8 @@ module _ (call : Call) (words : BookWords) (report lent : List ℤ) where
           number = same ∙ sym (answer_accepted own own_number own clear);
           reports =
               written
-              ∙ (λ i. settled_report ((gives_record answered ∙ ap (record_of call) (sym same)) i) ((gives_fund answered ∙ by_number (fund call book) 0) i) ((gives_demand answered ∙ by_number (demand call book) 0) i))
-              ∙ sym (ap (λ (wrong : Bool). cond wrong report (settled_report (record_of call number) (answer_by number (fund call book) 0) (answer_by number (demand call book) 0))) (words_clear settled_words words (length report) clear).1);
+              ∙ ap (cond (is_wrong_report settled_words (length report)) report)
+              (λ i. settled_report ((gives_record answered ∙ ap (record_of call) (sym same)) i) ((gives_fund answered ∙ by_number (fund call book) 0) i) ((gives_demand answered ∙ by_number (demand call book) 0) i));
           gives_book = kept ∙ words_of_lem (ℕ_discrete number 0);
           writes_lines = answered.writes ∙ by_number (lines call book) lent;
         }

@@ -2,22 +2,23 @@
 -- Assumes nothing.
 use Prim.Native.Nat.{ℕ, ◌+◌, ◌≤◌}
 use mathlib.Core.Path.{◌≡◌, refl, sym, ap, ◌∙◌}
-use mathlib.Core.Bool.{Bool, true, false, cond, not, false≢true}
+use mathlib.Core.Bool.{Bool, true, false, cond}
 use mathlib.Core.List.{List, [], ◌∷◌, ◌++◌, append-nil}
 use native.Mathlib.Omega.{arith}
-use lib.Dec.{eqb}
 use lib.ListN.{length, drop, drop_of_length-le}
 use lib.Seq.{sets, sets-eq}
 use mir.Val.{bool_byte}
-use borrow.Author.Tests.{eqb-true, eq-eqb, ne_eqb, not-false}
-use Rattle.numbers.specs.Refusals.{answer_by, answered, answer_number, answer_record}
+use borrow.Author.Tests.{eq-eqb, ne_eqb}
+use Rattle.numbers.specs.Refusals.{answer_by, answered, answer_record}
 use Rattle.numbers.proofs.Refusals.{refusal_none, refusal_here, refusal_next, number_answered, record_answered}
-use Rattle.std.specs.Prelude.{Result, Ok, Err, Some, None, unwrap_or, is_some}
+use Rattle.std.specs.Prelude.{Result, Ok, Err, MatchResult}
 use Rattle.std.specs.Result.{result_unwrap_or}
-use Rattle.rights.specs.Layout.{refused_reading}
-use Rattle.rights.specs.Reader.{Given, given_number, given_right, says_none}
 use Rattle.numbers.specs.declared.refusal.Refusal.{Refusal}
+use Rattle.calendar.proofs.Hours.{calendar_most}
 use Rattle.rights.proofs.Faults.{faulty_other}
+use Rattle.rights.proofs.Readings.{read_number}
+use Rattle.split.proofs.Answers.{split_number, left_or_none}
+use Rattle.target.proofs.Bounds.{call_most}
 use Rattle.rights.specs.Faults.{faulty_record}
 use Rattle.pupcopper.specs.Calls.{number_of, is_wrong_report, report_refusal, outcome_words}
 
@@ -26,29 +27,17 @@ pub flag_byte : (flag : Bool) → bool_byte flag ≡ cond flag 1 0
 flag_byte true = refl
 flag_byte false = refl
 
--- what a reader gives, in numbers: its number, its right or zeros, and whether it says that there is none
-pub given_number_lem : (given : Given) → answer_number (unwrap_or given (Ok (refused_reading 0).right)) ≡ given_number given
-given_number_lem (Some (Ok right)) = refl
-given_number_lem (Some (Err refusal)) = refl
-given_number_lem None = refl
-
-pub given_right_lem : (given : Given)
-    → result_unwrap_or (unwrap_or given (Ok (refused_reading 0).right)) (refused_reading 0).right ≡ given_right given
-given_right_lem (Some (Ok right)) = refl
-given_right_lem (Some (Err refusal)) = refl
-given_right_lem None = refl
-
-pub given_none : (given : Given) (none : Bool) → is_some given ≡ not none → none ≡ says_none given
-given_none given true e = absurd_or given e
+-- the words of what a call answers, or zeros, are those of what a host is promised
+pub value_words : {A : Type 0} (report : A → List ℕ) (none : A) {outcome answer : Result A Refusal} {value : A} {words : List ℕ}
+    → outcome ≡ answer → result_unwrap_or answer none ≡ value
+    → MatchResult outcome (λ x. words ≡ report x) (λ _. words ≡ report none) → words ≡ report value
+value_words report none {outcome} {answer} {value} {words} same is made =
+    by_answer outcome made ∙ ap (λ (r : Result _ Refusal). report (result_unwrap_or r none)) same ∙ ap report is
   where
-    absurd_or : (given : Given) → is_some given ≡ false → true ≡ says_none given
-    absurd_or (Some right) e = absurd (false≢true (sym e))
-    absurd_or None e = refl
-given_none given false e = some_or given e
-  where
-    some_or : (given : Given) → is_some given ≡ true → false ≡ says_none given
-    some_or (Some right) e = refl
-    some_or None e = absurd (false≢true e)
+    by_answer : (outcome : Result _ Refusal) → MatchResult outcome (λ x. words ≡ report x) (λ _. words ≡ report none)
+        → words ≡ report (result_unwrap_or outcome none)
+    by_answer (Ok x) e = e
+    by_answer (Err refusal) e = e
 
 module _ (words report : ℕ) where
   pub report_fits : report ≡ words → is_wrong_report words report ≡ false
@@ -56,9 +45,6 @@ module _ (words report : ℕ) where
 
   pub report_wrong : (report ≡ words → ⊥) → is_wrong_report words report ≡ true
   report_wrong other = rw (ne_eqb report words other)
-
-  pub report_long : is_wrong_report words report ≡ false → report ≡ words
-  report_long right = eqb-true report words (not-false (eqb report words) right)
 
   right_0 : report ≡ words → report_refusal words report ≡ 0
   unfolding report_refusal
@@ -98,15 +84,18 @@ nothing_behind values before all =
 pub written_all : {A : Type 0} (values before : List A) → length before ≡ length values → sets before 0 values ≡ values
 written_all values before all = written values before (omega arith) ∙ nothing_behind values before all
 
--- the report of a target call and of a row call: the record that the outcome names
-module _ (prices : ℕ) (file report : List ℕ) (fits : length report ≡ outcome_words) {refusal : ℕ} {outcome : Result (Unit {0}) Refusal} (is : outcome ≡ answered refusal (faulty_record prices file refusal) tt) (within : refusal ≤ 8) where
-  pub outcome_number : answer_number outcome ≡ refusal
-  outcome_number = ap answer_number is ∙ number_answered refusal _ tt (omega arith)
+-- a report of one word
+pub word_reported : (report : List ℕ) (word : ℕ) → length report ≡ 1
+    → sets report 0 (word ∷ []) ≡ answer_by (report_refusal 1 (length report)) (word ∷ []) report
+word_reported report word fits = written_all (word ∷ []) report fits ∙ right_given 1 (length report) _ _ fits
 
-  pub outcome_reported : {names : ℕ} → names ≡ answer_record outcome
-      → sets report 0 (names ∷ []) ≡ answer_by (report_refusal outcome_words (length report)) (faulty_record prices file refusal ∷ []) report
-  outcome_reported {names} e =
-      written_all (names ∷ []) report fits
-      ∙ ap (λ (n : ℕ). n ∷ [])
-      (e ∙ ap answer_record is ∙ record_answered refusal _ tt (omega arith) (faulty_other prices file refusal))
-      ∙ right_given outcome_words (length report) _ _ fits
+-- that of a target call and of a row call: the record that the outcome names
+pub outcome_reported : (prices : ℕ) (file report : List ℕ) (refusal names : ℕ) → length report ≡ outcome_words
+    → names ≡ answer_record {A = Unit {0}} (answered refusal (faulty_record prices file refusal) tt)
+    → sets report 0 (names ∷ []) ≡ answer_by (report_refusal outcome_words (length report)) (faulty_record prices file refusal ∷ []) report
+outcome_reported prices file report refusal names fits named =
+    let faulty = named ∙ record_answered refusal _ tt (faulty_other prices file refusal) in
+    ap (λ (word : ℕ). sets report 0 (word ∷ [])) faulty ∙ word_reported report (faulty_record prices file refusal) fits
+
+-- a call handed on: its number and what it writes, by the length of its report
+pub ruleset handed_on = (wrong_number, wrong_kept, right_number, right_given, number_answered, word_reported, outcome_reported, calendar_most, read_number, call_most, split_number, left_or_none)

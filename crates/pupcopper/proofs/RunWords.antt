@@ -17,6 +17,7 @@ use Rattle.settlement_run.proofs.BookAfter.{steps_keep}
 use Rattle.pupcopper.specs.BookWords.{BookWords}
 use Rattle.pupcopper.specs.Calls.{words_refusal}
 use Rattle.pupcopper.specs.InnerContracts.{SurplusesFit}
+use Rattle.pupcopper.proofs.WordRows.{given_book, refused_number, words_clear}
 use Rattle.pupcopper.specs.RunCalls.{HostSteps, reported, run_from, run_of, stepped_report, stepped_words}
 
 -- the surpluses that an accepted call leaves are small
@@ -51,3 +52,6 @@ refused_step file block words before end report is some told =
 
     none : own ≡ 0 → ⊥
     none z = omega arith
+
+-- for a step that is refused by its words and one of the run that they stand for
+pub ruleset step_laws = (refused_step, run_fits, step_fits, given_book, refused_number, words_clear)

@@ -7,7 +7,8 @@ use mathlib.Core.List.{[]}
 use native.Mathlib.Omega.{arith}
 use lib.Dec.{eqb}
 use lib.ListN.{length}
-use borrow.Author.Tests.{eqb-true, not-false}
+use borrow.Author.Tests.{eqb-true, not-false, lt-ltb, le-ltb}
+use Rattle.std.proofs.lemmas.Int.{to_z-of_z}
 use Rattle.std.specs.Prelude.{Result, Ok, Err}
 use Rattle.numbers.specs.declared.refusal.Refusal.{Refusal}
 use Rattle.numbers.specs.Refusals.{answered, number_in}
@@ -16,6 +17,7 @@ use Rattle.numbers.proofs.Refusals.{refusal_none, refusal_here, refusal_next, re
 use Rattle.settlement.specs.declared.Book.{Book}
 use Rattle.pupcopper.specs.BookWords.{BookWords, book_from, count_words, shortfall_words, surplus_words, is_wrong_count, is_wrong_mark, is_overdrawn}
 use Rattle.pupcopper.specs.Calls.{is_wrong_report, words_refusal, open_refusal}
+use Rattle.pupcopper.proofs.ReportWords.{report_fits, report_wrong}
 
 -- so many words are a book's
 pub record Long (words : BookWords) : Type 0 where
@@ -86,6 +88,9 @@ module _ (places : ℕ) (words : BookWords) (report : ℕ) where
   pub words_most : words_refusal places words report ≤ 4
   unfolding words_refusal
   words_most = refusal_most 1 4 _ refl
+
+-- row by row, by the tests
+pub ruleset rows = (wrong_count, wrong_report, wrong_mark, overdrawn, good_words, report_fits, report_wrong, lt-ltb, le-ltb, to_z-of_z)
 
 -- what is answered for words that are read from lent slices, told of the words in the slices
 module _ (places : ℕ) (words : BookWords) (report : ℕ) {read : BookWords} (same : read ≡ words) where

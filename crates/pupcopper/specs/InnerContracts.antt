@@ -1,9 +1,9 @@
 -- For the contracts of inner functions alone, no part of what a call promises: the words in lent slices, and amounts that fit 64 bits with
 -- their sign.
 -- Assumes nothing.
-use Rattle.std.specs.Prelude.{◌^◌, ◌<◌, ◌≡◌}
+use Rattle.std.specs.Prelude.{ℕ, ◌^◌, ◌<◌, ◌≡◌, length}
 use Rattle.settlement.specs.declared.Book.{Book}
-use Rattle.settlement.specs.Events.{Settled}
+use Rattle.settlement.specs.Events.{Call, hour_call, month_end_call, year_end_call, Settled}
 use Rattle.pupcopper.specs.BookWords.{BookWords, words_in}
 use Rattle.pupcopper.specs.declared.book_words.BookWords.{BookWords as ReadBook}
 use Rattle.pupcopper.specs.declared.book_words.LentBook.{LentBook}
@@ -15,6 +15,12 @@ words_read read = words_in read.counts.now read.shortfalls.now read.surpluses.no
 -- the words in three slices, lent to be written
 abbrev pub words_lent : LentBook → BookWords
 words_lent lent = words_in lent.counts.now lent.shortfalls.now lent.surpluses.now
+
+-- the bytes of rights that an event is lent
+abbrev pub bytes_lent : Call → ℕ
+bytes_lent (hour_call file prices collected) = length file
+bytes_lent month_end_call = 0
+bytes_lent year_end_call = 0
 
 -- the same three slices, whatever their words
 pub record SameSlices (before after : LentBook) : Type 0 where

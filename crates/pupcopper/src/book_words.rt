@@ -1,10 +1,11 @@
 // The book as three lent slices: its counts and mark, its shortfalls by owner, its surpluses.
-ghost use Rattle.std.specs.Prelude.{◌<◌, ◌≡◌, false, length, IfOk};
+ghost use Rattle.std.specs.Prelude.{ℕ, ◌^◌, ◌<◌, ◌≡◌, false, cond, List, ℤ, length, IfOk};
 ghost use Rattle.numbers.specs.Refusals.{answer_by, answered};
-ghost use Rattle.settlement.specs.Events.{in_numbers};
+ghost use Rattle.settlement.specs.Events.{Call, Answered, in_numbers};
+ghost use Rattle.std.specs.Borrow.{MutBor};
 ghost use Rattle.pupcopper.specs.BookWords.{by_owner, words_of, cells_from, book_from, shortfall_words, is_wrong_count};
-ghost use Rattle.pupcopper.specs.Calls.{settled_report, settled_words, words_refusal};
-ghost use Rattle.pupcopper.specs.InnerContracts.{words_read, words_lent, SameSlices, SurplusesFit, ResultFits};
+ghost use Rattle.pupcopper.specs.Calls.{is_wrong_report, settled_report, settled_words, words_refusal, Settles};
+ghost use Rattle.pupcopper.specs.InnerContracts.{bytes_lent, words_read, words_lent, SameSlices, SurplusesFit, ResultFits};
 
 use crate::reports;
 use numbers::{OWNERS, Refusal};
@@ -37,6 +38,7 @@ impl BookWords<'_> {
     }
 
     // The book that the words stand for, or what they and a report that should have so many places call for before there is one: 4 or 1.
+    #[tactic(auto, using(crate::proofs::WordRows::rows), unfolding(crate::specs::BookWords::book_from))]
     pub(crate) fn book(&self, report: usize, places: usize) -> Result<Book, Refusal>
         ensures value { result ≡ answered (words_refusal places (words_read self.now) report) 0 (book_from (words_read self.now)) }
         ensures surpluses_fit { IfOk result (λ book. SurplusesFit book) }
@@ -73,7 +75,8 @@ fn cells_from(shortfalls: &[u64], start: usize) -> [u64; OWNERS]
     array::from_fn(|owner| shortfalls[2 * owner + start])
 }
 
-// A book's words as a host lends them, to read and to write.
+// A book's words as a host lends them, to read and to write. Beside `BookWords`: the language has no one type for both, and `words` leads from
+// the one to the other. Three methods promise `same_slices`: it is about the value before and the value after, so that no field can hold it.
 #[derive(Drop)]
 pub(crate) struct LentBook<'a> {
     pub(crate) counts: &'a mut [u64],
@@ -94,6 +97,7 @@ impl LentBook<'_> {
     }
 
     // Writes a book's words.
+    #[tactic(auto, unfolding(crate::specs::BookWords::counts_of, crate::specs::BookWords::surpluses_of))]
     pub(crate) fn write(&mut self, book: Book)
         requires right_count { is_wrong_count (words_lent self.old) ≡ false }
         requires surpluses_fit { SurplusesFit book }
@@ -103,28 +107,58 @@ impl LentBook<'_> {
         self.counts
             .copy_from_slice(&[book.hours, book.months, u64::from(book.ended)]);
         write_cells(&book.monthshort, &book.yearshort, self.shortfalls);
-        self.surpluses
-            .copy_from_slice(&[book.monthsurplus as i64, book.yearsurplus as i64]);
+        self.surpluses.copy_from_slice(&[
+            book.monthsurplus.cast_signed(),
+            book.yearsurplus.cast_signed(),
+        ]);
+    }
+
+    // Settles an event of the book that the words stand for, or refuses the words. A refusal is a number here: the C interface.
+    #[tactic(auto, using(crate::proofs::WordRows::given_book, crate::proofs::WordRows::words_clear))]
+    pub(crate) fn settle<F: FnOnce(Book, &mut [i64]) -> Settled>(
+        &mut self,
+        event: F,
+        lines: &mut [i64],
+        report: &mut [i64],
+    ) -> u8
+        ghost call: { Call }
+        requires callable { F.IsAlwaysCallable event }
+        requires performs { (before after : MutBor (List ℤ)) (settled : Settled) → before.now ≡ lines.old → F.post event (book_from (words_lent self.old)) before settled after → Answered call (book_from (words_lent self.old)) lines.old (in_numbers settled) after.now }
+        requires few { bytes_lent call < 2 ^ 63 }
+        ensures settles { Settles call (words_lent self.old) report.old lines.old result (words_lent self.new) report.new lines.new }
+        ensures same_slices { SameSlices self.old self.new }
+    {
+        match self.words().book(report.len(), reports::SETTLED_WORDS) {
+            Ok(book) => {
+                let settled = event(book, lines);
+                self.give_back(settled, report)
+            }
+            Err(refusal) => {
+                reports::write([0; reports::SETTLED_WORDS], report);
+                refusal.number()
+            }
+        }
     }
 
     // Gives an event's result to the host: its number, its report, and, where it is accepted, the words of the book after it.
+    // The number and not the refusal, since C has no Result: the C interface.
     pub(crate) fn give_back(&mut self, settled: Settled, report: &mut [i64]) -> u8
         requires right_count { is_wrong_count (words_lent self.old) ≡ false }
-        requires report_len { length report.old ≡ settled_words }
         requires amounts_fit { ResultFits (in_numbers settled) }
         ensures value { result ≡ (in_numbers settled).refusal }
-        ensures report_after { report.new ≡ settled_report (in_numbers settled).faulty (in_numbers settled).fund (in_numbers settled).demand }
+        ensures report_after { report.new ≡ cond (is_wrong_report settled_words (length report.old)) report.old (settled_report (in_numbers settled).faulty (in_numbers settled).fund (in_numbers settled).demand) }
         ensures words_after { words_lent self.new ≡ answer_by result (words_of settled.book) (words_lent self.old) }
         ensures same_slices { SameSlices self.old self.new }
     {
         match settled.outcome {
             Ok(funding) => {
-                reports::write_settled(0, funding.fund, funding.demand, report);
+                let words = reports::of_event(0, funding.fund, funding.demand);
+                reports::write(words, report);
                 self.write(settled.book);
                 0
             }
             Err(refusal) => {
-                reports::write_settled(refusal.record(), 0, 0, report);
+                reports::write(reports::of_event(refusal.record(), 0, 0), report);
                 refusal.number()
             }
         }
@@ -136,6 +170,8 @@ fn write_cells(month: &[u64; OWNERS], year: &[u64; OWNERS], shortfalls: &mut [u6
     requires { length shortfalls.old ≡ shortfall_words }
     ensures { shortfalls.new ≡ by_owner month.now year.now }
 {
+    // By index: tried with the pairs of `as_chunks_mut`, of which no contract says what the lent slice ends as, so the proof did not close. By
+    // `iter_mut().enumerate()` each place would be asked whether it is even: no plainer.
     for owner in 0..OWNERS {
         shortfalls[2 * owner] = month[owner];
         shortfalls[2 * owner + 1] = year[owner];

@@ -1,4 +1,7 @@
 // The library for hosts in C and Rust: its calls on numbers and lent slices. Every argument is allowed.
+// C has no Result and knows none of our structs: a refusal is a number here, a book is three slices, and a text is a buffer and its end.
+// Two calls of one shape are two names of the C interface: they share what they call. What stays in each is the report's length, the call and the
+// two words given back; a function that is given the call and its words would take as many lines as it saves.
 
 #![tactic(auto)]
 
@@ -12,19 +15,18 @@ ghost use Rattle.target.specs.Rounding.{round_tenths};
 ghost use Rattle.target.specs.Rows.{row_lines, rows_refusal};
 ghost use Rattle.target.specs.Target.{target_lines, target_refusal};
 ghost use Rattle.settlement.specs.Book.{fresh as freshBook};
-ghost use Rattle.settlement.specs.Ends.{end_call};
 ghost use Rattle.settlement.specs.Events.{hour_call, month_end_call, year_end_call};
 ghost use Rattle.statement_text.specs.Buffer.{end_after, text_after};
 ghost use Rattle.statement_text.specs.Sentence.{sentence, sentence_room};
 ghost use Rattle.pupcopper.specs.Billing.{billing_class};
 ghost use Rattle.pupcopper.specs.BookWords.{words_in, words_of};
 ghost use Rattle.pupcopper.specs.Calls.{number_of, report_refusal, hour_words, hour_report, right_words, right_report, step_words, step_report, step_refusal, outcome_words, allocation_words, open_refusal, words_refusal, Settles};
-ghost use Rattle.pupcopper.specs.InnerContracts.{words_lent, SameSlices};
 ghost use Rattle.pupcopper.specs.RunCalls.{HostSteps, closed_words, closed_report, closing_run, closing_text, reported};
 
 use book_words::{BookWords, LentBook};
+use numbers::Refusal;
 use rights::Reader;
-use settlement::{Book, End};
+use settlement::Book;
 
 mod book_words;
 mod reports;
@@ -34,6 +36,7 @@ mod runs;
 
 // An hour number to twice its month, plus 1 in a peak hour; 255 for an hour that the year has not.
 #[unsafe(no_mangle)]
+#[tactic(auto, using(crate::proofs::Class::class_laws))]
 pub extern "C" fn pupcopper_class(hour: u64) -> u8
     ensures { result ≡ billing_class hour }
 {
@@ -55,65 +58,53 @@ pub extern "C" fn pupcopper_cents(tenths: i64) -> i64
 
 // The calendar call. The report gets the day, the month, and 1 in a peak hour.
 #[unsafe(no_mangle)]
+#[tactic(auto, using(crate::proofs::ReportWords::handed_on))]
 pub extern "C" fn pupcopper_calendar(hour: u64, report: &mut [u64]) -> u8
     ensures value { result ≡ number_of (report_refusal hour_words (length report.old)) (calendar_refusal hour) }
     ensures report_after { report.new ≡ answer_by (report_refusal hour_words (length report.old)) (hour_report (operating_hour hour)) report.old }
 {
     if report.len() != reports::HOUR_WORDS {
-        return 4;
+        return Refusal::WrongLength.number();
     }
     let outcome = calendar::operating_hour(hour);
-    report.copy_from_slice(&reports::of_hour(outcome.unwrap_or(reports::NO_HOUR)));
+    report.copy_from_slice(&outcome.map_or([0; reports::HOUR_WORDS], reports::of_hour));
     reports::number_of(outcome)
 }
 
 // The read by record number. The report gets the eight fields.
 #[unsafe(no_mangle)]
+#[tactic(auto, using(crate::proofs::ReportWords::handed_on))]
 pub extern "C" fn pupcopper_read(rights: &[u8], number: u64, report: &mut [u64]) -> u8
     ensures value { result ≡ number_of (report_refusal right_words (length report.old)) (reading rights.now number).refusal }
     ensures report_after { report.new ≡ answer_by (report_refusal right_words (length report.old)) (right_report (reading rights.now number).right) report.old }
 {
     if report.len() != reports::RIGHT_WORDS {
-        return 4;
+        return Refusal::WrongLength.number();
     }
     let outcome = rights::read(rights, number);
-    report.copy_from_slice(&reports::of_right(outcome.unwrap_or(reports::NO_RIGHT)));
+    report.copy_from_slice(&outcome.map_or([0; reports::RIGHT_WORDS], reports::of_right));
     reports::number_of(outcome)
 }
 
 // A reader's step from a record number. The report gets the eight fields, the number to go on with, and 1 if no record is left.
 #[unsafe(no_mangle)]
+#[tactic(auto, using(crate::proofs::ReportWords::handed_on))]
 pub extern "C" fn pupcopper_next(rights: &[u8], next: u64, report: &mut [u64]) -> u8
     ensures value { result ≡ number_of (report_refusal step_words (length report.old)) (step_refusal rights.now next) }
     ensures report_after { report.new ≡ answer_by (report_refusal step_words (length report.old)) (step_report rights.now next) report.old }
 {
     if report.len() != reports::STEP_WORDS {
-        return 4;
+        return Refusal::WrongLength.number();
     }
     let mut reader = Reader { file: rights, next };
     let given = reader.next();
-    let outcome = given.unwrap_or(Ok(reports::NO_RIGHT));
-    let [owner, source, sink, kind, class, size, first, last] = reports::of_right(outcome.unwrap_or(
-        reports::NO_RIGHT,
-    ));
-    let none = u64::from(given.is_none());
-    report.copy_from_slice(&[
-        owner,
-        source,
-        sink,
-        kind,
-        class,
-        size,
-        first,
-        last,
-        reader.next,
-        none,
-    ]);
-    reports::number_of(outcome)
+    report.copy_from_slice(&reports::of_step(given, reader.next));
+    given.map_or(0, reports::number_of)
 }
 
 // The target call. The report gets the record number of 7 and 8.
 #[unsafe(no_mangle)]
+#[tactic(auto, using(crate::proofs::ReportWords::handed_on))]
 pub extern "C" fn pupcopper_targets(
     rights: &[u8],
     prices: &[i32],
@@ -126,7 +117,7 @@ pub extern "C" fn pupcopper_targets(
     ensures report_after { report.new ≡ answer_by (report_refusal outcome_words (length report.old)) (faulty_record (length prices.now) rights.now (target_refusal rights.now prices.now hour (length lines.old)) ∷ []) report.old }
 {
     if report.len() != reports::OUTCOME_WORDS {
-        return 4;
+        return Refusal::WrongLength.number();
     }
     let outcome = target::targets(rights, prices, hour, lines);
     report[0] = reports::record_of(outcome);
@@ -135,6 +126,7 @@ pub extern "C" fn pupcopper_targets(
 
 // The row call. The report is that of the target call.
 #[unsafe(no_mangle)]
+#[tactic(auto, using(crate::proofs::ReportWords::handed_on))]
 pub extern "C" fn pupcopper_rows(
     rights: &[u8],
     prices: &[i32],
@@ -147,7 +139,7 @@ pub extern "C" fn pupcopper_rows(
     ensures report_after { report.new ≡ answer_by (report_refusal outcome_words (length report.old)) (faulty_record (length prices.now) rights.now (rows_refusal rights.now prices.now hour (length lines.old)) ∷ []) report.old }
 {
     if report.len() != reports::OUTCOME_WORDS {
-        return 4;
+        return Refusal::WrongLength.number();
     }
     let outcome = target::rows(rights, prices, hour, lines);
     report[0] = reports::record_of(outcome);
@@ -156,6 +148,7 @@ pub extern "C" fn pupcopper_rows(
 
 // The split call. The report gets what is left of the fund.
 #[unsafe(no_mangle)]
+#[tactic(auto, using(crate::proofs::ReportWords::handed_on))]
 pub extern "C" fn pupcopper_split(
     fund: u64,
     wants: &[u64],
@@ -167,7 +160,7 @@ pub extern "C" fn pupcopper_split(
     ensures report_after { report.new ≡ answer_by (report_refusal allocation_words (length report.old)) (answer_by (split_refusal wants.now (length payments.old)) (left fund wants.now) 0 ∷ []) report.old }
 {
     if report.len() != reports::ALLOCATION_WORDS {
-        return 4;
+        return Refusal::WrongLength.number();
     }
     let outcome = split::split(fund, wants, payments);
     report[0] = outcome.unwrap_or(0);
@@ -178,6 +171,7 @@ pub extern "C" fn pupcopper_split(
 
 // Writes a fresh book.
 #[unsafe(no_mangle)]
+#[tactic(auto, using(crate::proofs::WordRows::open_wrong, crate::proofs::WordRows::open_right, settlement::proofs::Amounts::fresh_empty))]
 pub extern "C" fn pupcopper_open(
     counts: &mut [u64],
     shortfalls: &mut [u64],
@@ -192,7 +186,7 @@ pub extern "C" fn pupcopper_open(
         surpluses,
     };
     if lent.words().is_no_book() {
-        return 4;
+        return Refusal::WrongLength.number();
     }
     lent.write(Book::fresh());
     0
@@ -217,16 +211,11 @@ pub extern "C" fn pupcopper_hour(
         shortfalls,
         surpluses,
     };
-    match lent.words().book(report.len(), reports::SETTLED_WORDS) {
-        Ok(book) => {
-            let settled = book.hour(rights, prices, collected, lines);
-            lent.give_back(settled, report)
-        }
-        Err(refusal) => {
-            reports::write_refused(report);
-            refusal.number()
-        }
-    }
+    lent.settle(
+        |book, lines| book.hour(rights, prices, collected, lines),
+        lines,
+        report,
+    )
 }
 
 // Closes the month.
@@ -245,7 +234,7 @@ pub extern "C" fn pupcopper_month_end(
         shortfalls,
         surpluses,
     };
-    close_words(End::Month, &mut lent, lines, report)
+    lent.settle(Book::month_end, lines, report)
 }
 
 // Ends the year.
@@ -264,24 +253,7 @@ pub extern "C" fn pupcopper_year_end(
         shortfalls,
         surpluses,
     };
-    close_words(End::Year, &mut lent, lines, report)
-}
-
-// The month end or the year end.
-fn close_words(end: End, lent: &mut LentBook, lines: &mut [i64], report: &mut [i64]) -> u8
-    ensures settles { Settles (end_call end) (words_lent lent.old) report.old lines.old result (words_lent lent.new) report.new lines.new }
-    ensures same_slices { SameSlices lent.old lent.new }
-{
-    match lent.words().book(report.len(), reports::SETTLED_WORDS) {
-        Ok(book) => {
-            let settled = book.close(end, lines);
-            lent.give_back(settled, report)
-        }
-        Err(refusal) => {
-            reports::write_refused(report);
-            refusal.number()
-        }
-    }
+    lent.settle(Book::year_end, lines, report)
 }
 
 // ---- a run as the program makes it: a step for each block, then the closing
@@ -289,6 +261,7 @@ fn close_words(end: End, lent: &mut LentBook, lines: &mut [i64], report: &mut [i
 // One block of the program's input: the hour, and the month end and the year end where they are due. Their lines are appended to the
 // text behind its end.
 #[unsafe(no_mangle)]
+#[tactic(auto, using(crate::proofs::RunWords::step_laws))]
 pub extern "C" fn pupcopper_step(
     counts: &mut [u64],
     shortfalls: &mut [u64],
@@ -306,16 +279,17 @@ pub extern "C" fn pupcopper_step(
         shortfalls,
         surpluses,
     };
+    // This match stands in `pupcopper_closing` and in `LentBook::settle` too: each has other words to write, so that a shared function is no plainer.
     match lent.words().book(report.len(), runs::STEPPED_WORDS) {
         Ok(book) => {
             let run = runs::run_from(book, 0, end);
             let next = settlement_run::step(run, rights, block, text);
             lent.write(next.book);
-            runs::write_stepped(next, report);
+            reports::write(runs::of_step(next), report);
             next.refusal
         }
         Err(refusal) => {
-            runs::write_stepped(runs::unmoved(end), report);
+            reports::write(runs::of_step(runs::unmoved(end)), report);
             refusal.number()
         }
     }
@@ -323,6 +297,7 @@ pub extern "C" fn pupcopper_step(
 
 // What comes after the last block: both surpluses, or the refusal that stopped the run.
 #[unsafe(no_mangle)]
+#[tactic(auto, using(crate::proofs::WordRows::refused_number))]
 pub extern "C" fn pupcopper_closing(
     counts: &[u64],
     shortfalls: &[u64],
@@ -344,11 +319,11 @@ pub extern "C" fn pupcopper_closing(
     match words.book(report.len(), runs::CLOSED_WORDS) {
         Ok(book) => {
             let closed = settlement_run::closing(runs::run_from(book, refusal, end), text);
-            runs::write_closed(closed, report);
+            reports::write(runs::of_closing(closed), report);
             0
         }
         Err(refused) => {
-            runs::write_closed(runs::unmoved(end), report);
+            reports::write(runs::of_closing(runs::unmoved(end)), report);
             refused.number()
         }
     }

@@ -1,7 +1,8 @@
-// What a call gives beside its number, written into its report.
-ghost use Rattle.std.specs.Prelude.{◌^◌, ◌<◌, ◌≡◌, cond, length};
+// What a call gives beside its number, in words, written into its report.
+ghost use Rattle.std.specs.Prelude.{◌^◌, ◌<◌, ◌≡◌, cond, [], ◌∷◌, ◌++◌, length};
 ghost use Rattle.numbers.specs.Refusals.{answer_number, answer_record};
-ghost use Rattle.pupcopper.specs.Calls.{hour_report, right_report, settled_report, settled_words, is_wrong_report};
+ghost use Rattle.rights.specs.Reader.{given_right, says_none};
+ghost use Rattle.pupcopper.specs.Calls.{hour_report, right_report, settled_report, is_wrong_report};
 
 use calendar::OperatingHour;
 use numbers::Refusal;
@@ -21,45 +22,22 @@ pub(crate) const ALLOCATION_WORDS: usize = 1;
 
 pub(crate) const SETTLED_WORDS: usize = 3;
 
-// Zeros, in the place of an hour and of a right that a refused call does not give.
-pub(crate) const NO_HOUR: OperatingHour = OperatingHour {
-    day: 0,
-    month: 0,
-    peak: false,
-};
-
-pub(crate) const NO_RIGHT: Right = Right {
-    owner: 0,
-    source: 0,
-    sink: 0,
-    kind: 0,
-    class: 0,
-    size: 0,
-    first: 0,
-    last: 0,
-};
-
-// The number of what a call answers: 0 where it is accepted.
+// The number of what a call answers: 0 where it is accepted. This and the record are one line each: a function that is given the method of
+// the refusal is no plainer.
 pub(crate) fn number_of<T: Copy>(outcome: Result<T, Refusal>) -> u8
     ensures { result ≡ answer_number outcome }
 {
-    match outcome {
-        Ok(_) => 0,
-        Err(refusal) => refusal.number(),
-    }
+    outcome.err().map_or(0, Refusal::number)
 }
 
 // The record that it names, or 0.
 pub(crate) fn record_of<T: Copy>(outcome: Result<T, Refusal>) -> u64
     ensures { result ≡ answer_record outcome }
 {
-    match outcome {
-        Ok(_) => 0,
-        Err(refusal) => refusal.record(),
-    }
+    outcome.err().map_or(0, Refusal::record)
 }
 
-// The words of an hour.
+// The words of an hour, and below of a right. By hand: there is no `From` between another crate's struct and an array.
 pub(crate) fn of_hour(hour: OperatingHour) -> [u64; HOUR_WORDS]
     ensures { result ≡ hour_report hour }
 {
@@ -86,20 +64,36 @@ pub(crate) fn of_right(right: Right) -> [u64; RIGHT_WORDS]
     ]
 }
 
-// Zeros for an event that is refused by its words, if the report has its places.
-pub(crate) fn write_refused(report: &mut [i64])
-    ensures { report.new ≡ cond (is_wrong_report settled_words (length report.old)) report.old (settled_report 0 0 0) }
+// Those of what a reader gives, zeros if it gives none; then where it stands, and 1 if it says that there is none.
+pub(crate) fn of_step(given: Option<Result<Right, Refusal>>, next: u64) -> [u64; STEP_WORDS]
+    ensures { result ≡ right_report (given_right given) ++ (next ∷ cond (says_none given) 1 0 ∷ []) }
 {
-    if report.len() == SETTLED_WORDS {
-        write_settled(0, 0, 0, report);
+    let mut words = [0; STEP_WORDS];
+    if let Some(Ok(right)) = given {
+        words[..RIGHT_WORDS].copy_from_slice(&of_right(right));
     }
+    words[RIGHT_WORDS] = next;
+    words[RIGHT_WORDS + 1] = u64::from(given.is_none());
+    words
 }
 
-// Writes an event's report: the record number, F and D.
-pub(crate) fn write_settled(faulty: u64, fund: u64, demand: u64, report: &mut [i64])
-    requires report_len { length report.old ≡ settled_words }
+// The words of an event: the record number, F and D, numbers for the C interface.
+pub(crate) fn of_event(faulty: u64, fund: u64, demand: u64) -> [i64; SETTLED_WORDS]
     requires amounts_fit { (faulty < 2 ^ 63) × (fund < 2 ^ 63) × (demand < 2 ^ 63) }
-    ensures { report.new ≡ settled_report faulty fund demand }
+    ensures { result ≡ settled_report faulty fund demand }
 {
-    report.copy_from_slice(&[faulty as i64, fund as i64, demand as i64]);
+    [
+        faulty.cast_signed(),
+        fund.cast_signed(),
+        demand.cast_signed(),
+    ]
+}
+
+// Writes these words, if the report has their places.
+pub(crate) fn write<T: Copy, const N: usize>(words: [T; N], report: &mut [T])
+    ensures { report.new ≡ cond (is_wrong_report N (length report.old)) report.old words }
+{
+    if report.len() == N {
+        report.copy_from_slice(&words);
+    }
 }

@@ -1,7 +1,7 @@
-// A run from a host's book, and where it then stands, written into a report.
+// A run from a host's book, and the words that say where it then stands.
 ghost use Rattle.std.specs.Prelude.{◌≡◌};
 ghost use Rattle.settlement.specs.Book.{fresh as freshBook};
-ghost use Rattle.pupcopper.specs.RunCalls.{run_of, stepped_words, stepped_report, closed_words, closed_report, reported};
+ghost use Rattle.pupcopper.specs.RunCalls.{run_of, stepped_report, closed_report};
 
 use settlement::Book;
 use settlement_run::Run;
@@ -12,7 +12,8 @@ pub(crate) const STEPPED_WORDS: usize = 5;
 
 pub(crate) const CLOSED_WORDS: usize = 2;
 
-// The run that stands at a book, stopped by a refusal or by none.
+// The run that stands at a book, stopped by a refusal or by none; its own fields by hand, as in `opening`, since a run of any refusal is a
+// host's alone. The refusal is a number, and may be any: the C interface.
 pub(crate) fn run_from(book: Book, refusal: u8, end: usize) -> Run
     ensures { result ≡ run_of book refusal end }
 {
@@ -34,26 +35,24 @@ pub(crate) fn unmoved(end: usize) -> Run
     run_from(Book::fresh(), 0, end)
 }
 
-// Writes where a step left the run, if the report has its places.
-pub(crate) fn write_stepped(run: Run, report: &mut [u64])
-    ensures { report.new ≡ reported stepped_words report.old (stepped_report run) }
+// Where a step left the run.
+pub(crate) fn of_step(run: Run) -> [u64; STEPPED_WORDS]
+    ensures { result ≡ stepped_report run }
 {
-    if report.len() == STEPPED_WORDS {
-        report.copy_from_slice(&[
-            u64::from(run.full),
-            run.end as u64,
-            u64::from(run.tag),
-            run.number,
-            run.faulty,
-        ]);
-    }
+    [
+        u64::from(run.full),
+        // There is no From between usize and 64 bits.
+        run.end as u64,
+        u64::from(run.tag),
+        run.number,
+        run.faulty,
+    ]
 }
 
-// Writes where the closing left it, if the report has its places.
-pub(crate) fn write_closed(run: Run, report: &mut [u64])
-    ensures { report.new ≡ reported closed_words report.old (closed_report run) }
+// Where the closing left it.
+pub(crate) fn of_closing(run: Run) -> [u64; CLOSED_WORDS]
+    ensures { result ≡ closed_report run }
 {
-    if report.len() == CLOSED_WORDS {
-        report.copy_from_slice(&[u64::from(run.full), run.end as u64]);
-    }
+    // There is no From between usize and 64 bits.
+    [u64::from(run.full), run.end as u64]
 }

@@ -1,15 +1,17 @@
 -- The fields cut from a record's two words are the layout's, and the bytes of the words that eight fields make give the fields back.
 -- Assumes nothing.
-use Prim.Native.Nat.{ℕ, ◌+◌, ◌<◌, ◌^◌}
+use Prim.Native.Nat.{ℕ, ◌+◌, ◌*◌, ◌<◌, ◌≤◌, ◌^◌}
 use mathlib.Core.Path.{◌≡◌, refl, sym, ap, ap₂, ◌∙◌}
-use mathlib.Core.List.{List, ◌++◌}
+use mathlib.Core.List.{List, [], ◌++◌}
 use native.Mathlib.Nat.{add_assoc, add-zero, le_of_eq}
 use native.Mathlib.Omega.{arith}
+use lib.ListN.{get_or}
+use Rattle.std.specs.Simd.{first_chunks}
 use Rattle.numbers.specs.Lists.{list_below}
-use Rattle.numbers.specs.Words.{bytes_of, part_of}
-use Rattle.numbers.proofs.WordLaws.{append_bytes, are_bytes, bytes_length, bytes_whole, word_before, word_behind, word_bytes, word_part}
+use Rattle.numbers.specs.Words.{bytes_of, part_of, word}
+use Rattle.numbers.proofs.WordLaws.{append_bytes, are_bytes, bytes_length, bytes_whole, chunk_word, word_before, word_behind, word_bytes, word_part}
 use Rattle.rights.specs.declared.Right.{Right}
-use Rattle.rights.specs.Layout.{right_from}
+use Rattle.rights.specs.Layout.{record_bytes, record_count, right_at, right_from}
 use Rattle.rights.specs.RecordWords.{CutAsLaidOut, InWidths, LaidOutAsGiven, LaidOutAsRead, high_of, high_word, laid_out, low_of, low_word, right_of}
 
 -- each field is the part of a word that its own bytes make
@@ -26,6 +28,32 @@ cut_as_laid_out file at are =
       first = word_part file are (at + 8) 4 2 2 (at + 12) (add_assoc at 8 4) i;
       last = word_part file are (at + 8) 6 2 0 (at + 14) (add_assoc at 8 6) i;
     }
+
+-- the right that is cut from the chunk of a number is the file's
+module _ (file : List ℕ) (number : ℕ) (inside : number < record_count file) where
+  abbrev chunk : List ℕ
+  chunk = get_or (first_chunks record_bytes (record_count file) file) number []
+
+  word_in : (n at : ℕ) {place : ℕ} → number * record_bytes + at ≡ place → at + n ≤ record_bytes → word n chunk at ≡ word n file place
+  word_in n at here within = chunk_word file record_bytes (record_count file) number inside n at _ within here
+
+  chunk_right : right_from chunk 0 ≡ right_at file number
+  chunk_right =
+      λ i.
+      record {
+        owner = word_in 2 0 (add-zero (number * record_bytes)) (omega arith) i;
+        source = word_in 2 2 refl (omega arith) i;
+        sink = word_in 2 4 refl (omega arith) i;
+        kind = word_in 1 6 refl (omega arith) i;
+        class = word_in 1 7 refl (omega arith) i;
+        size = word_in 4 8 refl (omega arith) i;
+        first = word_in 2 12 refl (omega arith) i;
+        last = word_in 2 14 refl (omega arith) i;
+      }
+
+  pub cut_right : {chunks : List (List ℕ)} {right : Right} → chunks ≡ first_chunks record_bytes (record_count file) file
+      → right ≡ right_from (get_or chunks number []) 0 → right ≡ right_at file number
+  cut_right are cut = cut ∙ ap (λ (cs : List (List ℕ)). right_from (get_or cs number []) 0) are ∙ chunk_right
 
 module _ (right : Right) (in_widths : InWidths right) where
   -- the fields cut from the words that they made

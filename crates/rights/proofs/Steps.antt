@@ -3,13 +3,14 @@
 -- Assumes nothing.
 use Prim.Native.Nat.{ℕ, ◌+◌, ◌≤◌, ◌<◌}
 use mathlib.Core.Path.{◌≡◌, refl, sym, ◌∙◌}
-use mathlib.Core.Bool.{Bool, true, false, cond}
+use mathlib.Core.Bool.{Bool, true, false, cond, false≢true}
 use mathlib.Core.List.{List}
-use lib.Dec.{eqb}
+use lib.Dec.{eqb, leb}
 use lib.ListN.{length}
-use borrow.Author.Tests.{le-leb, lt-leb, ne_eqb}
+use borrow.Author.Tests.{le-leb, lt-leb, leb-true, leb-false, ne_eqb}
 use Rattle.rights.specs.declared.Right.{Right}
-use Rattle.std.specs.Prelude.{Some, None, Ok, Err}
+use Rattle.std.specs.Prelude.{Result, Some, None, Ok, Err}
+use Rattle.numbers.specs.declared.refusal.Refusal.{Refusal}
 use Rattle.numbers.specs.declared.refusal.Refusal.TheVariants.{WrongLength, BadRight}
 use Rattle.numbers.specs.Refusals.{first_refusal, answered, number_in, refusal_of}
 use Rattle.numbers.proofs.Refusals.{refusal_is, number_some}
@@ -104,3 +105,24 @@ pub one_step : (file : List ℕ) (next : ℕ) {given other : Given} {after later
     → IsStep file next other later → (given ≡ other) × (after ≡ later)
 one_step file next {given} {other} step same =
     (same_given given other (step.number ∙ sym same.number) (step.right ∙ sym same.right) (step.faulty ∙ sym same.faulty) (step.none ∙ sym same.none), step.moves ∙ sym same.moves)
+
+-- what a step gives over a file of right length, that of the read by the number; and where it gives none, all records have been given
+module _ (file : List ℕ) (next : ℕ) (right : is_wrong_length (length file) ≡ false) {after : ℕ} where
+  pub step_given : {given : Result Right Refusal} → IsStep file next (Some given) after
+      → (next < record_count file) × (given ≡ answered (read_refusal file next) next (right_at file next)) × (after ≡ next + 1)
+  step_given {given} step = by_test (leb (record_count file) next) refl
+    where
+      by_test : (past : Bool) → leb (record_count file) next ≡ past
+          → (next < record_count file) × (given ≡ answered (read_refusal file next) next (right_at file next)) × (after ≡ next + 1)
+      by_test true e = absurd (false≢true (step.none ∙ finished_past file next right (leb-true _ _ e)))
+      by_test false e =
+          let inside : next < record_count file = leb-false _ _ e in
+          let only = one_step file next step (step_read file next right inside) in
+          (inside, cc only.0, only.1)
+
+  pub step_none : IsStep file next None after → record_count file ≤ next
+  step_none step = by_test (leb (record_count file) next) refl
+    where
+      by_test : (past : Bool) → leb (record_count file) next ≡ past → record_count file ≤ next
+      by_test true e = leb-true _ _ e
+      by_test false e = absurd (false≢true (sym (step.none ∙ finished_inside file next right (leb-false _ _ e))))

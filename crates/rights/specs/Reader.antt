@@ -1,6 +1,7 @@
 -- The reader over a lent rights file: what it gives next, and where it then stands.
 -- Assumes nothing.
-use Rattle.std.specs.Prelude.{ℕ, ◌+◌, ◌<◌, ◌≤◌, ◌≡◌, Bool, true, false, not, cond, ◌&&◌, List, leb, eqb, length, Option, Some, None, Result, Ok, Err}
+use Rattle.std.specs.Prelude.{ℕ, ◌+◌, ◌-◌, ◌<◌, ◌≤◌, ◌≡◌, Bool, true, false, not, cond, ◌&&◌, List, leb, eqb, length, Option, Some, None, Result, Ok, Err}
+use Rattle.std.specs.Iterator.{Count}
 use Rattle.rights.specs.declared.Right.{Right}
 use Rattle.numbers.specs.declared.refusal.Refusal.{Refusal}
 use Rattle.numbers.specs.Refusals.{number_in, record_in}
@@ -37,6 +38,10 @@ says_none None = true
 -- "exactly when every record has been given"; a file of wrong length has no records to give
 unfoldable pub is_finished : List ℕ → ℕ → Bool
 is_finished file next = not (is_wrong_length (length file)) && leb (record_count file) next
+
+-- how many records are left to give; "over a file of wrong length it gives only 4", and has no end
+abbrev pub records_left : List ℕ → ℕ → Count
+records_left file next = record { bounded = not (is_wrong_length (length file)); bound = record_count file - next }
 
 -- "moves past it": past each record, good or bad, and nowhere where a read gives 4
 unfoldable pub next_after : List ℕ → ℕ → ℕ

@@ -71,7 +71,18 @@ struct Words {
 }
 
 impl Words {
-    // The eight fields, each from its own bytes of the low or the high word.
+    // The two words of a record's bytes; the fields cut from them are the layout's.
+    fn from_le_bytes(bytes: &[u8; RECORD_BYTES]) -> Words
+        ensures words { (result.low ≡ low_word bytes.now 0) × (result.high ≡ high_word bytes.now 0) }
+        ensures fields { right_of result.low result.high ≡ right_from bytes.now 0 }
+    {
+        let low = u64::from_le_bytes(*bytes.first_chunk().unwrap());
+        let high = u64::from_le_bytes(*bytes.last_chunk().unwrap());
+        Words { low, high }
+    }
+
+    // The eight fields, each from its own bytes of the low or the high word. By `as`: each fits, and `try_from` would add cases that cannot
+    // come, in the loop that takes the time.
     fn cut(self) -> Right
         ensures { result ≡ right_of self.low self.high }
     {
@@ -104,7 +115,8 @@ impl Words {
     }
 
     // Whether owner, source, sink and kind are within their limits. Asked of the word, and not of the fields cut from it, it is one test for
-    // the compiler: that the bits above the limits are 0.
+    // the compiler: that the bits above the limits are 0. By `as`: of a constant of the other width, and of an enum, whose byte the language
+    // gives so.
     fn within_limits(self) -> bool
         ensures { result ≡ is_within_limits (right_of self.low self.high) }
     {
@@ -116,19 +128,18 @@ impl Words {
     }
 }
 
-// The record of a number, from 0: any bytes, any number.
+// The record of a number, from 0: any bytes, any number. By `as`, here and below: there is no `From` between 64 bits and an index.
 pub fn read(file: &[u8], number: u64) -> Result<Right, Refusal>
     ensures { result ≡ answered (read_refusal file.now number) number (right_at file.now number) }
 {
-    let bytes = file.len();
-    if wrong_length(bytes) {
+    if wrong_length(file.len()) {
         return Err(Refusal::WrongLength);
     }
-    let place = number as usize;
-    if bytes / RECORD_BYTES <= place {
+    let (records, _) = file.as_chunks::<RECORD_BYTES>();
+    let Some(record) = records.get(number as usize) else {
         return Err(Refusal::WrongLength);
-    }
-    let words = words_at(file, place * RECORD_BYTES);
+    };
+    let words = Words::from_le_bytes(record);
     if words.is_good() {
         Ok(words.cut())
     } else {
@@ -147,25 +158,24 @@ pub fn wrong_length(bytes: usize) -> bool
 pub fn is_unpriced(right: Right, prices: usize) -> bool
     ensures { result ≡ is_unpriced prices right }
 {
-    (prices <= right.source as usize) | (prices <= right.sink as usize)
+    (prices <= usize::from(right.source)) | (prices <= usize::from(right.sink))
 }
 
-// Whether the right is live in an hour.
+// Whether the right is live in an hour. Here and in `is_good`, a class is turned to its byte by `as`, which the language does so.
 pub fn is_live(right: Right, hour: OperatingHour) -> bool
     ensures { result ≡ is_live hour right }
 {
-    (right.class != other_class(hour.peak))
+    (right.class != other_class(hour.peak) as u8)
         & (right.class <= Class::AllHours as u8)
         & (right.first <= hour.day)
         & (hour.day <= right.last)
 }
 
 // The class that does not fit: off-peak in a peak hour, peak in an off-peak one.
-fn other_class(peak: bool) -> u8
+fn other_class(peak: bool) -> Class
     ensures { result ≡ other_class peak }
 {
-    let other = if peak { Class::OffPeak } else { Class::Peak };
-    other as u8
+    if peak { Class::OffPeak } else { Class::Peak }
 }
 
 // The first refusal that a file calls for, with so many prices; it names the first record that has the fault.
@@ -175,9 +185,10 @@ pub fn file_fault(file: &[u8], prices: usize) -> Result<(), Refusal>
     if wrong_length(file.len()) {
         return Err(Refusal::WrongLength);
     }
+    let (records, _) = file.as_chunks::<RECORD_BYTES>();
     let mut unpriced = None;
-    for number in 0..file.len() / RECORD_BYTES {
-        let words = words_at(file, number * RECORD_BYTES);
+    for (number, record) in records.iter().enumerate() {
+        let words = Words::from_le_bytes(record);
         if !words.is_good() {
             return Err(Refusal::BadRight(number as u64));
         }
@@ -188,24 +199,4 @@ pub fn file_fault(file: &[u8], prices: usize) -> Result<(), Refusal>
         Some(number) => Err(Refusal::UnpricedNode(number)),
         None => Ok(()),
     }
-}
-
-// The two words of the record that starts at a place; the fields cut from them are the layout's. A function of its own, so that the
-// compiler has made one load of each word's bytes before it looks at the tests.
-fn words_at(file: &[u8], at: usize) -> Words
-    requires { at + 16 ≤ length file.now }
-    ensures words { (result.low ≡ low_word file.now at) × (result.high ≡ high_word file.now at) }
-    ensures fields { right_of result.low result.high ≡ right_from file.now at }
-{
-    let low = word64_at(file, at);
-    let high = word64_at(file, at + 8);
-    Words { low, high }
-}
-
-// The word of the eight bytes from a place on.
-fn word64_at(file: &[u8], at: usize) -> u64
-    requires { at + 8 ≤ length file.now }
-    ensures { result ≡ word 8 file.now at }
-{
-    u64::from_le_bytes(*file[at..at + 8].as_array().unwrap())
 }

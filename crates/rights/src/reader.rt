@@ -1,6 +1,6 @@
 // The reader over the lent rights file: it holds the file and the number of the next record.
 ghost use Rattle.std.specs.Prelude.{◌≡◌};
-ghost use Rattle.rights.specs.Reader.{IsStep};
+ghost use Rattle.rights.specs.Reader.{IsStep, records_left};
 
 use crate::{RECORD_BYTES, Right};
 use numbers::Refusal;
@@ -28,11 +28,14 @@ impl<'a> Iterator for Reader<'a> {
 
     ghost next_gives = { λ before given after. (after.file ≡ before.file) × IsStep before.file.now before.next given after.next };
 
+    ghost remaining = { λ reader. records_left reader.file.now reader.next };
+
     fn next(&mut self) -> Option<Result<Right, Refusal>> {
         let number = self.next;
         if crate::wrong_length(self.file.len()) {
             return Some(Err(Refusal::WrongLength));
         }
+        // By `as`: there is no `From` from an index to 64 bits.
         if (self.file.len() / RECORD_BYTES) as u64 <= number {
             return None;
         }

@@ -20,7 +20,7 @@ use Rattle.settlement.specs.declared.Event.{Event}
 use Rattle.settlement.specs.declared.payment.Paid.{Paid}
 use Rattle.settlement.specs.Book.{is_spoiled, all_shortfalls}
 use Rattle.settlement.specs.Ends.{end_call, event_at}
-use Rattle.settlement.specs.Events.{event_rows, own_rows, refusal, record_of}
+use Rattle.settlement.specs.Events.{paid, payment_lines, lines, event_rows, own_rows, refusal, record_of}
 use Rattle.settlement.specs.InnerContracts.{paid_from}
 use Rattle.settlement.proofs.NotSpoiled.{in_step, months_within, shortfalls_within, surplus_within}
 use Rattle.settlement.proofs.Paying.{unpaid_small, left_small}
@@ -37,6 +37,12 @@ pub end_names : (end : End) (number : ℕ) → 0 ≡ record_of (end_call end) nu
 unfolding record_of
 end_names Month number = refl
 end_names Year number = refl
+
+-- its lines are what it pays
+pub end_lines : (end : End) (book : Book) → payment_lines (paid (end_call end) book) ≡ lines (end_call end) book
+unfolding lines
+end_lines Month book = refl
+end_lines Year book = refl
 
 -- the refusal of the code's event
 pub end_refusal : (end : End) {event : Event} (book : Book) (places : ℕ) → event ≡ event_at end

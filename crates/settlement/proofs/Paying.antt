@@ -1,13 +1,13 @@
 -- A split over all owners, and the cells after it.
 -- Assumes nothing.
 use Prim.Native.Nat.{ℕ, ◌+◌, ◌-◌, ◌≤◌}
-use mathlib.Core.Path.{◌≡◌, sym, ap, ap₂, ◌∙◌}
+use mathlib.Core.Path.{◌≡◌, ap, ap₂, ◌∙◌}
 use mathlib.Core.List.{List}
 use native.Mathlib.Omega.{arith}
 use lib.ListN.{length, get_or}
 use Rattle.numbers.specs.Limits.{owners, most_cents}
-use Rattle.numbers.specs.Lists.{total, list_below}
-use Rattle.numbers.proofs.Counts.{get_or_le_total, list_below_get_or, total_add, total_mono}
+use Rattle.numbers.specs.Lists.{total}
+use Rattle.numbers.proofs.Counts.{get_or_le_total, list_of_elements, total_add, total_mono}
 use Rattle.split.specs.Split.{payments, left, split_refusal}
 use Rattle.split.proofs.Answers.{accepted}
 use Rattle.split.proofs.Laws.{payments_at_most, closes}
@@ -15,23 +15,19 @@ use Rattle.settlement.specs.declared.payment.Paid.{Paid}
 use Rattle.settlement.specs.Events.{unpaid_of, added_to}
 use Rattle.settlement.specs.InnerContracts.{paid_from}
 
--- a list of 64 cells is the list of its cells
-pub same_cells : (cells : List ℕ) → length cells ≡ owners → list_below (λ (owner : ℕ). get_or cells owner 0) owners ≡ cells
-same_cells cells all = ap (λ (n : ℕ). list_below (λ owner. get_or cells owner 0) n) (sym all) ∙ list_below_get_or cells 0
-
 -- what is unpaid is no more than what was wanted
 pub unpaid_small : (wants payments : List ℕ) → length wants ≡ owners → total (unpaid_of wants payments) ≤ total wants
 unfolding unpaid_of
 unpaid_small wants payments all =
     let each = total_mono (λ i. get_or wants i 0 - get_or payments i 0) (λ i. get_or wants i 0) owners (λ i l. omega arith) in
-    omega (arith, ap total (same_cells wants all))
+    omega (arith, ap total (list_of_elements wants 0 all))
 
 -- cells with something added come to both sums
 pub added_total : (cells more : List ℕ) → length cells ≡ owners → length more ≡ owners → total (added_to cells more) ≡ total cells + total more
 unfolding added_to
 added_total cells more all both =
     total_add (λ i. get_or cells i 0) (λ i. get_or more i 0) owners
-    ∙ ap₂ (λ (m n : ℕ). m + n) (ap total (same_cells cells all)) (ap total (same_cells more both))
+    ∙ ap₂ (λ (m n : ℕ). m + n) (ap total (list_of_elements cells 0 all)) (ap total (list_of_elements more 0 both))
 
 -- a split over 64 wants that come to no more than it takes is not refused
 pub not_refused : (wants : List ℕ) → length wants ≡ owners → total wants ≤ most_cents → split_refusal wants owners ≡ 0
@@ -56,6 +52,9 @@ put_together fund wants demand rest paid unpaid d l p u =
 module _ (fund : ℕ) (wants : List ℕ) where
   pub payment_small : (most : ℕ) → total wants ≤ most → (i : ℕ) → get_or (payments fund wants) i 0 ≤ most
   payment_small most within i = omega (arith, payments_at_most fund wants i, get_or_le_total wants i)
+
+  pub paid_small : {paid : Paid} → paid ≡ paid_from fund wants → total wants ≤ most_cents → (i : ℕ) → get_or paid.payments i 0 ≤ most_cents
+  paid_small p within i = rw p (payment_small most_cents within i)
 
   pub left_small : left fund wants ≤ fund
   left_small = omega (arith, closes fund wants)

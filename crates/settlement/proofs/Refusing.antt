@@ -254,16 +254,16 @@ refusal_most_lem call book places =
 -- a refusal below 7 names none
 pub record_none : (call : Call) (number : ℕ) → number < 7 → record_of call number ≡ 0
 unfolding record_of
-record_none (hour_call file prices collected) number low = faulty_none (length prices) file number low
-record_none month_end_call number low = refl
-record_none year_end_call number low = refl
+record_none (hour_call file prices collected) k low = faulty_none (length prices) file k low
+record_none month_end_call k low = refl
+record_none year_end_call k low = refl
 
 -- any refusal but 7 and 8 names none
 pub record_other : (call : Call) (number : ℕ) → (number ≡ 7 → ⊥) → (number ≡ 8 → ⊥) → record_of call number ≡ 0
 unfolding record_of
-record_other (hour_call file prices collected) number not_7 not_8 = faulty_other (length prices) file number not_7 not_8
-record_other month_end_call number not_7 not_8 = refl
-record_other year_end_call number not_7 not_8 = refl
+record_other (hour_call file prices collected) k not_7 not_8 = faulty_other (length prices) file k not_7 not_8
+record_other month_end_call k not_7 not_8 = refl
+record_other year_end_call k not_7 not_8 = refl
 
 -- an hour refused with 7 or 8 names "the lowest one with that fault, all earlier records being free of it"
 pub names_first : (file : List ℕ) (prices : List ℤ) (collected : ℤ) (book : Book) (places k : ℕ) → 7 ≤ k → k ≤ 8
@@ -306,7 +306,7 @@ module _ (call : Call) (book : Book) (lent : List ℤ) where
       back = ap number_in some.1 ∙ number_back number faulty some.0 within
 
       named : record_in refusal ≡ faulty
-      named = ap record_in some.1 ∙ record_back number faulty within (λ not_7 not_8. names ∙ record_other call number not_7 not_8)
+      named = ap record_in some.1 ∙ record_back number faulty (λ not_7 not_8. names ∙ record_other call number not_7 not_8)
 
       none : table ≡ 0 → ⊥
       none z = omega (arith, some.0, e ∙ z)

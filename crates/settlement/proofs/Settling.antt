@@ -143,24 +143,24 @@ module _ {file : List ℕ} {prices : List ℤ} {collected : ℤ} {book : Book} {
   small : (total (hour_wants found) ≤ most_cents) × (hour_charges found ≤ most_cents)
   small = let clear = size_clear _ _ _ _ deal.fits in (clear.0, clear.1)
 
-  pub may_write : (length lent ≡ owners) × ((i : ℕ) → get_or shares.payments i 0 ≤ most_cents)
-  may_write = (deal.aim.start.long, λ i. rw deal.shares_are (payment_small _ _ most_cents small.0 i))
+  pub payments_small : (i : ℕ) → get_or shares.paid.payments i 0 ≤ most_cents
+  payments_small i = rw deal.shares_are (payment_small _ _ most_cents small.0 i)
 
-  pub has_room : (book.hours + 1 < 2 ^ 64) × (book.monthsurplus + book.yearsurplus + shares.left < 2 ^ 64)
+  pub has_room : (book.hours + 1 < 2 ^ 64) × (book.monthsurplus + book.yearsurplus + shares.paid.left < 2 ^ 64)
   has_room =
       let inside = deal.aim.start.inside in
-      let rest = ap (λ (x : Shares). x.left) deal.shares_are in
+      let rest = ap (λ (x : Shares). x.paid.left) deal.shares_are in
       let part = left_small (hour_fund amount found) (hour_wants found) in
       let before = surplus_within book deal.aim.start.sound in
       (omega arith, omega (arith, small.1, (may_share deal.aim).1))
 
-  pub settled_hour : {after : List ℤ} {next : Book} → after ≡ hour_lines found shares.payments
-      → next ≡ book_after_hour book shares.monthshort shares.left
-      → Answered (hour_call file prices collected) book lent (result_of (Ok shares.funding) next) after
+  pub settled_hour : {after : List ℤ} {next : Book} → after ≡ hour_lines found shares.paid.payments
+      → next ≡ book_after_hour book shares.monthshort shares.paid.left
+      → Answered (hour_call file prices collected) book lent (result_of (Ok shares.paid.funding) next) after
   unfolding fund demand wants lines book_after
   settled_hour written b =
       let shared = deal.shares_are ∙ ap₂ (shares_of book) deal.aim.amount_is deal.aim.found_is in
       accepted_answer (hour_call file prices collected) book lent _ _ _ (sym (size_is deal.aim) ∙ deal.fits)
-      (ap (λ (x : Shares). x.funding) shared)
-      (b ∙ ap (λ (x : Shares). book_after_hour book x.monthshort x.left) shared)
-      (written ∙ ap₂ hour_lines deal.aim.found_is (ap (λ (x : Shares). x.payments) shared))
+      (ap (λ (x : Shares). x.paid.funding) shared)
+      (b ∙ ap (λ (x : Shares). book_after_hour book x.monthshort x.paid.left) shared)
+      (written ∙ ap₂ hour_lines deal.aim.found_is (ap (λ (x : Shares). x.paid.payments) shared))

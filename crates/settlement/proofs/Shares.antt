@@ -9,12 +9,12 @@ use lib.IntN.{ℤ, pos, negsuc}
 use Rattle.numbers.specs.Limits.{owners}
 use Rattle.numbers.specs.Lists.{total, list_below}
 use Rattle.numbers.specs.Signs.{positive, negative}
-use Rattle.numbers.proofs.Counts.{get_or_list_below}
+use Rattle.numbers.proofs.Counts.{get_or_list_below, list_of_elements}
 use Rattle.split.specs.Split.{WithinACent, left}
 use Rattle.split.proofs.Laws.{payments_length, payment_at, payments_at_most, closes, closes_enough, nothing_left, within_a_cent}
 use Rattle.settlement.specs.declared.Book.{Book}
 use Rattle.settlement.specs.Events.{Call, hour_call, month_end_call, year_end_call, next_targets, target_of, hour_wants, wants, fund, demand, paid, hour_line, hour_lines, payment_lines, lines, unpaid_of, added_to}
-use Rattle.settlement.proofs.Paying.{same_cells, left_small}
+use Rattle.settlement.proofs.Paying.{left_small}
 use Rattle.settlement.proofs.SharingOut.{wants_length}
 
 -- what an owner wants and is paid
@@ -76,12 +76,12 @@ module _ (call : Call) (book : Book) where
     -- payments and what is left make up the fund
     pub paid_closes : total (list_below (paid_to call book) owners) + left_over call book ≡ fund call book
     paid_closes =
-        let all = same_cells (paid call book) (payments_length (fund call book) (wants call book) ∙ long) in
+        let all = list_of_elements (paid call book) 0 (payments_length (fund call book) (wants call book) ∙ long) in
         omega (arith, ap total all, closes (fund call book) (wants call book))
 
     pub demand_of_all : demand call book ≡ total (list_below (wanted call book) owners)
     unfolding demand
-    demand_of_all = ap total (sym (same_cells (wants call book) long))
+    demand_of_all = ap total (sym (list_of_elements (wants call book) 0 long))
 
     pub near : (owner : ℕ) → owner < owners
         → WithinACent (fund call book) (demand call book) (wanted call book owner) (paid_to call book owner)

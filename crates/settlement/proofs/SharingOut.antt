@@ -2,8 +2,10 @@
 -- Assumes nothing.
 use Prim.Native.Nat.{ℕ, ◌+◌, ◌≤◌, ◌<◌}
 use mathlib.Core.Path.{◌≡◌, sym, ap, ap₂, ◌∙◌}
+use mathlib.Core.Bool.{true, false}
 use mathlib.Core.List.{List}
 use native.Mathlib.Omega.{arith}
+use lib.Dec.{ltb}
 use lib.ListN.{length}
 use lib.IntN.{ℤ}
 use borrow.Author.Tests.{ltb-false, lt-ltb, le-ltb}
@@ -50,19 +52,19 @@ module _ (book : Book) (fund : ℕ) (wants : List ℕ) (charges : ℕ) where
         refusal_next 9 _ (le-ltb most_cents (total wants) few) ∙ refusal_here 9 _ (lt-ltb most_cents charges over)
 
     module _ (light : charges ≤ most_cents) where
-      pub carry_over : most_cents < all_shortfalls (hour_book book fund wants) → size ≡ 10
+      pub carry_over : ltb most_cents (all_shortfalls (hour_book book fund wants)) ≡ true → size ≡ 10
       unfolding size_rows
       carry_over over =
           refusal_next 9 _ (le-ltb most_cents (total wants) few)
           ∙ refusal_next 9 _ (le-ltb most_cents charges light)
-          ∙ refusal_here 10 _ (lt-ltb most_cents (all_shortfalls (hour_book book fund wants)) over)
+          ∙ refusal_here 10 _ over
 
-      pub all_within : all_shortfalls (hour_book book fund wants) ≤ most_cents → size ≡ 0
+      pub all_within : ltb most_cents (all_shortfalls (hour_book book fund wants)) ≡ false → size ≡ 0
       unfolding size_rows
       all_within within =
           refusal_next 9 _ (le-ltb most_cents (total wants) few)
           ∙ refusal_next 9 _ (le-ltb most_cents charges light)
-          ∙ refusal_next 10 _ (le-ltb most_cents (all_shortfalls (hour_book book fund wants)) within)
+          ∙ refusal_next 10 _ within
           ∙ refusal_none
 
 -- ---- the shares
@@ -88,14 +90,5 @@ module _ (book : Book) (collected : ℕ) (targets : List ℤ) where
     pub carried : total next + total book.yearshort ≡ all_shortfalls (hour_book book (hour_fund collected targets) (hour_wants targets))
     carried = ap (λ (cells : List ℕ). total cells + total book.yearshort) next_is
 
-    pub shares_are : ◌≡◌ {A = Shares}
-        (record { funding = paid.funding; left = paid.left; payments = paid.payments; monthshort = next })
-        (shares_of book collected targets)
-    shares_are =
-        λ i.
-        record {
-          funding = (paid_is i).funding;
-          left = (paid_is i).left;
-          payments = (paid_is i).payments;
-          monthshort = next_is i;
-        }
+    pub shares_are : ◌≡◌ {A = Shares} (record { paid = paid; monthshort = next }) (shares_of book collected targets)
+    shares_are = λ i. record { paid = paid_is i; monthshort = next_is i }

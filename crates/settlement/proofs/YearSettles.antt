@@ -10,7 +10,7 @@ use native.Mathlib.Omega.{arith}
 use lib.Dec.{leb, ltb}
 use lib.ListN.{length}
 use lib.IntN.{ℤ, pos}
-use borrow.Author.Tests.{lt-leb}
+use borrow.Author.Tests.{lt-leb, le-ltb}
 use Rattle.numbers.specs.Limits.{owners, most_cents}
 use Rattle.numbers.specs.Lists.{total, list_below}
 use Rattle.numbers.specs.Refusals.{first_refusal}
@@ -63,14 +63,14 @@ module _ (prices : List ℤ) (collected : ℤ) (book : Book) (sane : Sane book) 
   call = hour_call [] prices collected
 
   -- nothing is wanted, so nothing is added to the shortfalls
-  same_shortfalls : all_shortfalls (hour_book book (fund call book) (wants call book)) ≤ most_cents
+  same_shortfalls : ltb most_cents (all_shortfalls (hour_book book (fund call book) (wants call book))) ≡ false
   unfolding unpaid_of wants
   same_shortfalls =
       let all = wants_long call book long in
       let none = no_wants prices book.hours in
       let small = unpaid_small (wants call book) (paid call book) all in
       let sum = added_total book.monthshort (unpaid_of (wants call book) (paid call book)) long.month (length_list_below _ owners) in
-      omega (arith, sane.short_most)
+      le-ltb most_cents _ (omega (arith, sane.short_most))
 
   fits : first_refusal (size_rows book (fund call book) (wants call book) (hour_charges (next_targets [] prices book))) ≡ 0
   unfolding wants

@@ -30,9 +30,7 @@ paid_from fund wants =
 abbrev pub shares_of : Book → ℕ → List ℤ → Shares
 shares_of book collected targets =
     record {
-      funding = funding_of (hour_fund collected targets) (hour_wants targets);
-      left = left (hour_fund collected targets) (hour_wants targets);
-      payments = payments (hour_fund collected targets) (hour_wants targets);
+      paid = paid_from (hour_fund collected targets) (hour_wants targets);
       monthshort = (hour_book book (hour_fund collected targets) (hour_wants targets)).monthshort;
     }
 

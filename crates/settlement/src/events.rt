@@ -12,7 +12,7 @@ use crate::{Book, End, Event, Funding, MOST_COLLECTED, cells, lines, payment, re
 use numbers::{OWNERS, Refusal};
 
 impl Book {
-    // Settles the next hour.
+    // Settles the next hour. Its parameters are those of the public call: a struct would be made and taken apart once.
     pub(crate) fn settle_hour(
         &mut self,
         rights: &[u8],
@@ -25,9 +25,9 @@ impl Book {
         refusals::of_event(self, Event::Hour, lines.len())?;
         let targets = hour_targets(rights, prices, self.hours, collected)?;
         let shares = payment::share_out(self, numbers::positive_part(collected), &targets)?;
-        lines::write_hour(&targets, &shares.payments, lines);
-        self.after_hour(shares.monthshort, shares.left);
-        Ok(shares.funding)
+        lines.copy_from_slice(&lines::of_hour(&targets, &shares.paid.payments));
+        self.after_hour(shares.monthshort, shares.paid.left);
+        Ok(shares.paid.funding)
     }
 
     // Pays the shortfalls of a month or of the year from its surplus.
@@ -35,23 +35,25 @@ impl Book {
         ensures { Answered (end_call end) self.old lines.old (result_of result self.new) lines.new }
     {
         refusals::of_event(self, end.into(), lines.len())?;
+        // Two matches on the end: a month and a year have other cells to pay from and to write, so that closures would be no plainer.
+        let (fund, wants) = match end {
+            End::Month => (self.monthsurplus, self.monthshort),
+            End::Year => (self.yearsurplus, self.yearshort),
+        };
+        let paid = payment::pay(fund, &wants);
+        lines.copy_from_slice(&lines::of_payments(&paid.payments));
         match end {
             End::Month => {
-                let paid = payment::close(self.monthsurplus, &self.monthshort, lines);
                 let cells = cells::added(&self.yearshort, &paid.unpaid);
                 self.after_month(cells, paid.left);
-                Ok(paid.funding)
             }
-            End::Year => {
-                let paid = payment::close(self.yearsurplus, &self.yearshort, lines);
-                self.after_year(paid.unpaid, paid.left);
-                Ok(paid.funding)
-            }
+            End::Year => self.after_year(paid.unpaid, paid.left),
         }
+        Ok(paid.funding)
     }
 }
 
-// The targets of an hour, or the refusal that its rights, prices and amount call for.
+// The targets of an hour, or the refusal that its rights, prices and amount call for. It is given what the event is given, once.
 fn hour_targets(
     rights: &[u8],
     prices: &[i32],
@@ -74,14 +76,11 @@ fn hour_targets(
 fn is_before_amount(outcome: Result<(), Refusal>) -> bool
     ensures { result ≡ is_before_amount outcome }
 {
-    match outcome {
-        Ok(()) => false,
-        Err(refusal) => refusal.number() < Refusal::WildAmount.number(),
-    }
+    outcome.is_err_and(|refusal| refusal < Refusal::WildAmount)
 }
 
 fn is_wild_amount(collected: i64) -> bool
     ensures { result ≡ is_wild_amount collected }
 {
-    (collected < 0) | (MOST_COLLECTED < collected)
+    (collected < 0) | (MOST_COLLECTED < collected.unsigned_abs())
 }

@@ -18,7 +18,7 @@ mod refusals;
 mod spoiled;
 
 // The most cents collected in an hour.
-pub(crate) const MOST_COLLECTED: i64 = 4_000_000_000_000;
+pub(crate) const MOST_COLLECTED: u64 = 4_000_000_000_000;
 
 // What is settled and what is open. Amounts are cents; a caller may hand over any book.
 #[derive(Clone, Copy)]
@@ -128,7 +128,7 @@ impl Book {
         self.close(End::Year, lines)
     }
 
-    // The month end or the year end.
+    // The month end or the year end. It ends as `hour` does: one function that is given what settles would be no plainer.
     pub fn close(mut self, end: End, lines: &mut [i64]) -> Settled
         ensures { Answered (end_call end) self lines.old (in_numbers result) lines.new }
     {

@@ -1,11 +1,10 @@
 // The split of a fund over all owners, and what an hour makes of it.
-ghost use Rattle.std.specs.Prelude.{◌≤◌, ◌≡◌, length};
-ghost use Rattle.numbers.specs.Limits.{owners, most_cents};
+ghost use Rattle.std.specs.Prelude.{◌≤◌, ◌≡◌};
+ghost use Rattle.numbers.specs.Limits.{most_cents};
 ghost use Rattle.numbers.specs.Lists.{total};
 ghost use Rattle.numbers.specs.Refusals.{answered, first_refusal};
-ghost use Rattle.split.specs.Split.{payments as paymentsOf};
 ghost use Rattle.settlement.specs.Book.{all_shortfalls, most_collected};
-ghost use Rattle.settlement.specs.Events.{hour_charges, hour_fund, hour_wants, payment_lines, size_rows};
+ghost use Rattle.settlement.specs.Events.{hour_charges, hour_fund, hour_wants, size_rows};
 ghost use Rattle.settlement.specs.InnerContracts.{paid_from, shares_of};
 
 use crate::{Book, Funding, cells, lines};
@@ -20,12 +19,10 @@ pub(crate) struct Paid {
     pub(crate) unpaid: [u64; OWNERS],
 }
 
-// An hour's fund and demand, and what the book and the lines get from them.
+// What an hour pays, and the month's cells after it.
 #[derive(Clone, Copy)]
 pub(crate) struct Shares {
-    pub(crate) funding: Funding,
-    pub(crate) left: u64,
-    pub(crate) payments: [u64; OWNERS],
+    pub(crate) paid: Paid,
     pub(crate) monthshort: [u64; OWNERS],
 }
 
@@ -49,31 +46,14 @@ pub(crate) fn share_out(
     }
     let paid = pay(collected + charges, &wants);
     let monthshort = cells::added(&book.monthshort, &paid.unpaid);
-    let short = numbers::capped_total(cap, 0, &monthshort);
-    if numbers::capped_total(cap, short, &book.yearshort) == cap {
+    if cells::is_carry_full(&monthshort, &book.yearshort) {
         return Err(Refusal::CarryFull);
     }
-    Ok(Shares {
-        funding: paid.funding,
-        left: paid.left,
-        payments: paid.payments,
-        monthshort,
-    })
-}
-
-// Splits a fund over the cells of a month or a year, and writes the payments as lines.
-pub(crate) fn close(fund: u64, wants: &[u64; OWNERS], lines: &mut [i64]) -> Paid
-    requires { (total wants.now ≤ most_cents) × (length lines.old ≡ owners) }
-    ensures value { result ≡ paid_from fund wants.now }
-    ensures lines_after { lines.new ≡ payment_lines (paymentsOf fund wants.now) }
-{
-    let paid = pay(fund, wants);
-    lines::write_payments(&paid.payments, lines);
-    paid
+    Ok(Shares { paid, monthshort })
 }
 
 // Splits a fund over 64 wants that a split takes.
-fn pay(fund: u64, wants: &[u64; OWNERS]) -> Paid
+pub(crate) fn pay(fund: u64, wants: &[u64; OWNERS]) -> Paid
     requires { total wants.now ≤ most_cents }
     ensures { result ≡ paid_from fund wants.now }
 {

@@ -2,21 +2,20 @@
 ghost use Rattle.std.specs.Prelude.{◌≡◌};
 ghost use Rattle.settlement.specs.Book.{last_end, off_month, out_of_step, is_spoiled};
 
-use crate::Book;
+use crate::{Book, cells};
 
 // The most that one hour can bring: the largest amount collected and the most charges.
-const MOST_SURPLUS: u64 = crate::MOST_COLLECTED as u64 + numbers::MOST_CENTS;
+const MOST_SURPLUS: u64 = crate::MOST_COLLECTED + numbers::MOST_CENTS;
 
 // Refusal 1: by the counts and the mark, by the shortfalls, or by the surpluses.
+#[tactic(auto, unfolding(crate::specs::Book::is_spoiled))]
 pub(crate) fn is_spoiled(book: &Book) -> bool
     ensures { result ≡ is_spoiled book.now }
 {
     if is_out_of_step(book.hours, book.months, book.ended) {
         return true;
     }
-    let cap = numbers::MOST_CENTS + 1;
-    let short = numbers::capped_total(cap, 0, &book.monthshort);
-    if numbers::capped_total(cap, short, &book.yearshort) == cap {
+    if cells::is_carry_full(&book.monthshort, &book.yearshort) {
         return true;
     }
     numbers::is_sum_above(
@@ -54,7 +53,7 @@ fn is_off_month(hours: u64, months: u64) -> bool
         & !((last_end(months) <= hours) & (hours <= calendar::month_end(months)))
 }
 
-// The hours at the end of the last closed month, 0 if none is closed.
+// The hours at the end of the last closed month; 0 if none is closed, as the definition has it, since the months begin at hour 0.
 fn last_end(months: u64) -> u64
     ensures { result ≡ last_end months }
 {

@@ -2,27 +2,30 @@
 -- Assumes nothing.
 use Prim.Native.Nat.{ℕ, zero, suc, ◌+◌, ◌≤◌}
 use mathlib.Core.Path.{◌≡◌, refl, sym, ap, subst, ◌∙◌}
-use mathlib.Core.Bool.{Bool, true, false, cond}
+use mathlib.Core.Bool.{true, false}
 use mathlib.Core.List.{List, [], ◌∷◌}
 use native.Mathlib.Omega.{arith}
 use lib.ListN.{length}
 use lib.IntN.{ℤ}
+use Rattle.std.specs.Prelude.{Result, Ok, Err}
 use Rattle.numbers.specs.Limits.{owners}
+use Rattle.numbers.specs.declared.refusal.Refusal.{Refusal}
 use Rattle.numbers.specs.Refusals.{answer_by}
-use Rattle.numbers.proofs.Refusals.{answer_accepted, answer_refused}
+use Rattle.numbers.proofs.Refusals.{number_some}
 use Rattle.settlement.specs.declared.Book.{Book}
-use Rattle.settlement.specs.Events.{Settled, Call, event_of, is_due, refusal, record_of, lines, book_after, Answered}
+use Rattle.settlement.specs.declared.Funding.{Funding}
+use Rattle.settlement.specs.Events.{result_of, Call, hour_call, month_end_call, year_end_call, event_of, is_due, refusal, record_of, lines, book_after, Answered}
 use Rattle.settlement.proofs.Refusing.{gives_number, gives_record, gives_book_lem}
 use Rattle.statement_text.specs.Buffer.{written, end_after, text_after}
 use Rattle.statement_text.specs.InnerContracts.{Wrote}
-use Rattle.statement_text.specs.Text.{Line, text_of, event_lines, event_room}
+use Rattle.statement_text.specs.Text.{text_of, event_lines, event_room}
 use Rattle.statement_text.proofs.Lines.{text_none}
 use Rattle.statement_text.proofs.Pieces.{wrote_nothing, wrote_as}
 use Rattle.statement_text.proofs.Room.{with_room}
 use Rattle.settlement_run.specs.declared.Run.{Run}
 use Rattle.settlement_run.specs.Run.{Part, goes_on, stops, and_then, tag_of, number_of, asked_of, event_part, if_due}
 use Rattle.settlement_run.specs.Calls.{standing, run_at}
-use Rattle.settlement_run.specs.InnerContracts.{ending, Appended, result_part, refused_by}
+use Rattle.settlement_run.specs.InnerContracts.{ending, Appended, call_at, answered_part}
 use Rattle.settlement_run.proofs.Parts.{then_goes, then_stops}
 
 -- with the room that a call asks for, its text is written
@@ -58,13 +61,9 @@ appended_as same made =
 pub appended_told : (part : Part) (run : Run) {before after : List ℕ} {end : ℕ} {result : Run}
     → Wrote (text_of part.printed) before run.end after end → end ≤ run.end + event_room owners
     → result ≡ run_at part run.full end → Appended part run before result after
-appended_told part run {before} {after} {end} wrote short told =
-    record {
-      full = ap (λ (r : Run). r.full) told;
-      wrote = subst (λ (n : ℕ). Wrote (text_of part.printed) before run.end after n) (sym (ap (λ (r : Run). r.end) told)) wrote;
-      short = subst (λ (n : ℕ). n ≤ run.end + event_room owners) (sym (ap (λ (r : Run). r.end) told)) short;
-      stands = ap standing told;
-    }
+appended_told part run {before} {after} wrote short told =
+    subst (λ (r : Run). Appended part run before r after) (sym told)
+    (record { full = refl; wrote = wrote; short = short; stands = refl })
 
 -- nothing is printed
 pub appended_nothing : (part : Part) (run : Run) (before : List ℕ) {result : Run} → part.printed ≡ []
@@ -74,35 +73,41 @@ appended_nothing part run before none told =
 
 -- ---- an event
 
--- with its letter and number said in another way
-pub result_as : {tag letter number other : ℕ} (settled : Settled) (cents : List ℤ) {run result : Run} {before after : List ℕ}
-    → tag ≡ letter → number ≡ other → Appended (result_part tag number settled cents) run before result after
-    → Appended (result_part letter other settled cents) run before result after
-result_as settled cents {run} {result} {before} {after} t n made =
-    subst (λ (p : Part). Appended p run before result after) (λ i. result_part (t i) (n i) settled cents) made
+-- its letter and its number are those of its calls
+tag_is : (call : Call) → tag_of (call_at (event_of call)) ≡ tag_of call
+tag_is (hour_call file prices collected) = refl
+tag_is month_end_call = refl
+tag_is year_end_call = refl
 
--- the result of a call on a book ends as the event's part does
-module _ (call : Call) (book : Book) (settled : Settled) (lent cents : List ℤ) where
-  abbrev printed_by : List ℤ → List Line
-  printed_by given = event_lines (tag_of call) (number_of call book) given
+number_is : (call : Call) (book : Book) → number_of (call_at (event_of call)) book ≡ number_of call book
+number_is (hour_call file prices collected) book = refl
+number_is month_end_call book = refl
+number_is year_end_call book = refl
 
-  by_number : (number : ℕ) → settled.refusal ≡ number → settled.faulty ≡ record_of call number
-      → settled.book ≡ answer_by number (book_after call book) book → cents ≡ answer_by number (lines call book) lent
-      → SameEnd (result_part (tag_of call) (number_of call book) settled cents)
-      (answer_by number (goes_on (asked_of call ∷ []) (printed_by (lines call book)) (book_after call book)) (stops (asked_of call ∷ []) number (tag_of call) (number_of call book) (record_of call number) book))
-  by_number zero is names gives writes =
-      same_then (same_end (answer_accepted settled.refusal _ _ is))
-      (record { printed = ap printed_by writes; ends = λ i. stops [] 0 0 0 0 (gives i) })
-  by_number (suc n) is names gives writes =
-      same_then (same_end (answer_refused settled.refusal _ _ (λ zero. omega (arith, is, zero))))
-      (record { printed = refl; ends = λ i. stops [] (is i) (tag_of call) (number_of call book) (names i) (gives i) })
+-- the answer of a call on a book ends as the event's part does
+module _ (call : Call) (book after : Book) (lent cents : List ℤ) where
+  by_number : (number : ℕ) (outcome : Result Funding Refusal) → (result_of outcome after).refusal ≡ number
+      → (result_of outcome after).faulty ≡ record_of call number → (result_of outcome after).book ≡ answer_by number (book_after call book) book
+      → cents ≡ answer_by number (lines call book) lent
+      → SameEnd (answered_part (event_of call) book outcome after cents)
+      (answer_by number (goes_on (asked_of call ∷ []) (event_lines (tag_of call) (number_of call book) (lines call book)) (book_after call book))
+      (stops (asked_of call ∷ []) number (tag_of call) (number_of call book) (record_of call number) book))
+  by_number zero (Ok funding) is names gives writes =
+      record {
+        printed = λ i. event_lines (tag_is call i) (number_is call book i) (writes i);
+        ends = λ i. stops [] 0 0 0 0 (gives i);
+      }
+  by_number zero (Err refusal) is names gives writes = absurd (number_some refusal is)
+  by_number (suc n) (Ok funding) is names gives writes = absurd (omega arith)
+  by_number (suc n) (Err refusal) is names gives writes =
+      record { printed = refl; ends = λ i. stops [] (is i) (tag_is call i) (number_is call book i) (names i) book }
 
-  pub event_ends : Answered call book lent settled cents → length lent ≡ owners
-      → SameEnd (result_part (tag_of call) (number_of call book) settled cents) (event_part call book)
+  pub event_ends : (outcome : Result Funding Refusal) → Answered call book lent (result_of outcome after) cents → length lent ≡ owners
+      → SameEnd (answered_part (event_of call) book outcome after cents) (event_part call book)
   unfolding event_part
-  event_ends answered all =
+  event_ends outcome answered all =
       let places = ap (refusal call book) all in
-      by_number (refusal call book owners) (gives_number answered ∙ places)
+      by_number (refusal call book owners) outcome (gives_number answered ∙ places)
       (gives_record answered ∙ ap (record_of call) places)
       (gives_book_lem answered ∙ ap (λ (n : ℕ). answer_by n (book_after call book) book) places)
       (answered.writes ∙ ap (λ (n : ℕ). answer_by n (lines call book) lent) places)
@@ -113,8 +118,7 @@ module _ (call : Call) (book : Book) (settled : Settled) (lent cents : List ℤ)
 pub appended_stopped : (run : Run) (next : Book → Part) (before : List ℕ) → (run.refusal ≡ 0 → ⊥)
     → Appended (and_then (standing run) next) run before run before
 appended_stopped run next before stopped =
-    appended_as (same_end (sym (then_stops (standing run) next stopped)))
-    (appended_nothing (standing run) run before refl refl)
+    rw (then_stops (standing run) next stopped) (appended_nothing (standing run) run before refl refl)
 
 -- a run that goes on ends as the next part does
 pub same_next : (run : Run) (next : Book → Part) → run.refusal ≡ 0 → SameEnd (next run.book) (and_then (standing run) next)
@@ -122,18 +126,14 @@ same_next run next goes =
     same_then (record { printed = refl; ends = refl }) (same_end (sym (then_goes (standing run) next goes)))
 
 module _ (call : Call) (run : Run) (before : List ℕ) (goes : run.refusal ≡ 0) where
-  pub not_due : is_due (event_of call) run.book ≡ false → {result : Run} → result ≡ refused_by run 0 0 0 0
+  pub not_due : is_due (event_of call) run.book ≡ false → {result : Run} → result ≡ run_at (goes_on [] [] run.book) run.full run.end
       → Appended (and_then (standing run) (if_due call)) run before result before
   unfolding if_due
   not_due later told =
-      appended_as (same_next run (if_due call) goes)
-      (appended_as (same_end (sym (ap (λ (t : Bool). cond t (event_part call run.book) (goes_on [] [] run.book)) later)))
-      (appended_nothing (goes_on [] [] run.book) run before refl told))
+      appended_as (same_next run (if_due call) goes) (rw later (appended_nothing (goes_on [] [] run.book) run before refl told))
 
   pub when_due : is_due (event_of call) run.book ≡ true → {result : Run} {after : List ℕ}
       → Appended (event_part call run.book) run before result after
       → Appended (and_then (standing run) (if_due call)) run before result after
   unfolding if_due
-  when_due now made =
-      appended_as (same_next run (if_due call) goes)
-      (appended_as (same_end (sym (ap (λ (t : Bool). cond t (event_part call run.book) (goes_on [] [] run.book)) now))) made)
+  when_due now made = appended_as (same_next run (if_due call) goes) (rw now made)

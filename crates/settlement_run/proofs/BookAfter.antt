@@ -4,39 +4,26 @@ use Prim.Native.Nat.{ℕ}
 use mathlib.Core.Path.{◌≡◌, sym, subst}
 use mathlib.Core.Bool.{Bool, true, false, cond}
 use mathlib.Core.List.{List, []}
-use native.Mathlib.Decide.{ℕ_discrete}
 use lib.ListN.{length}
 use Rattle.numbers.specs.Limits.{owners, nodes}
-use Rattle.numbers.proofs.Refusals.{answer_accepted, answer_refused}
 use Rattle.settlement.specs.declared.Book.{Book}
 use Rattle.settlement.specs.Events.{Call, hour_call, month_end_call, year_end_call, event_of, is_due, refusal, book_after}
 use Rattle.hour_block.specs.Block.{amount_in, prices_in, decode_refusal}
 use Rattle.settlement_run.specs.declared.Run.{Run}
 use Rattle.settlement_run.specs.Run.{Part, goes_on, and_then, event_part, if_due, hour_part, step_part}
 use Rattle.settlement_run.specs.Calls.{step_room, lacks_room, standing, stepped, stepped_run}
-use Rattle.settlement_run.proofs.Parts.{then_goes, then_stops}
+use Rattle.settlement_run.proofs.Parts.{by_refusal, by_first}
 
 module _ (P : Book → Type 0)
     (accepts : (call : Call) (book : Book) → refusal call book owners ≡ 0 → P book → P (book_after call book)) where
-  -- a part's book is as good as another's
-  as_part : {part other : Part} → part ≡ other → P other.book → P part.book
-  as_part is holds = subst (λ (p : Part). P p.book) (sym is) holds
-
   then_keeps : (part : Part) (next : Book → Part) → P part.book → ((book : Book) → P book → P (next book).book)
       → P (and_then part next).book
-  then_keeps part next holds keeps = by_first (ℕ_discrete part.refusal 0)
-    where
-      by_first : Dec (part.refusal ≡ 0) → P (and_then part next).book
-      by_first (yes goes) = as_part (then_goes part next goes) (keeps part.book holds)
-      by_first (no stopped) = as_part (then_stops part next stopped) holds
+  then_keeps part next holds keeps = by_first part next (λ (p : Part). P p.book) (λ _. keeps part.book holds) (λ _. holds)
 
   event_keeps : (call : Call) (book : Book) → P book → P (event_part call book).book
   unfolding event_part
-  event_keeps call book holds = by_number (ℕ_discrete (refusal call book owners) 0)
-    where
-      by_number : Dec (refusal call book owners ≡ 0) → P (event_part call book).book
-      by_number (yes goes) = as_part (answer_accepted (refusal call book owners) _ _ goes) (accepts call book goes holds)
-      by_number (no stopped) = as_part (answer_refused (refusal call book owners) _ _ stopped) holds
+  event_keeps call book holds =
+      by_refusal (λ (p : Part). P p.book) (refusal call book owners) _ _ (λ goes. accepts call book goes holds) (λ _. holds)
 
   due_keeps : (call : Call) (book : Book) → P book → P (if_due call book).book
   unfolding if_due
@@ -49,13 +36,9 @@ module _ (P : Book → Type 0)
   module _ (file block : List ℕ) where
     hour_keeps : (book : Book) → P book → P (hour_part file block book).book
     unfolding hour_part
-    hour_keeps book holds = by_length (ℕ_discrete (decode_refusal (length block) nodes) 0)
-      where
-        by_length : Dec (decode_refusal (length block) nodes ≡ 0) → P (hour_part file block book).book
-        by_length (yes whole) =
-            as_part (answer_accepted (decode_refusal (length block) nodes) _ _ whole)
-            (event_keeps (hour_call file (prices_in block) (amount_in block)) book holds)
-        by_length (no broken) = as_part (answer_refused (decode_refusal (length block) nodes) _ _ broken) holds
+    hour_keeps book holds =
+        by_refusal (λ (p : Part). P p.book) (decode_refusal (length block) nodes) _ _
+        (λ _. event_keeps (hour_call file (prices_in block) (amount_in block)) book holds) (λ _. holds)
 
     pub part_keeps : (book : Book) → P book → P (step_part file block book).book
     unfolding step_part

@@ -4,12 +4,10 @@ use Prim.Native.Nat.{ℕ, zero, suc, ◌<◌}
 use mathlib.Core.Path.{◌≡◌, refl, sym, ap, ◌∙◌}
 use mathlib.Core.Bool.{Bool, true, false, cond}
 use mathlib.Core.List.{List, []}
-use native.Mathlib.Decide.{ℕ_discrete}
 use native.Mathlib.Numerals.{add-one}
 use native.Mathlib.Omega.{arith}
 use lib.ListN.{length}
 use Rattle.numbers.specs.Limits.{owners, nodes}
-use Rattle.numbers.proofs.Refusals.{answer_accepted, answer_refused}
 use Rattle.calendar.specs.Year.{hours_in_year}
 use Rattle.settlement.specs.declared.Book.{Book}
 use Rattle.settlement.specs.Events.{Call, hour_call, month_end_call, year_end_call, event_of, is_due, refusal, book_after}
@@ -17,7 +15,7 @@ use Rattle.settlement.proofs.Accepted.{hour_accepted}
 use Rattle.settlement.proofs.HoursAfter.{fresh_hours, hour_hours, month_hours, year_hours}
 use Rattle.hour_block.specs.Block.{amount_in, prices_in, decode_refusal}
 use Rattle.settlement_run.specs.Run.{Part, goes_on, and_then, event_part, if_due, hour_part, step_part, opening, block_at, run_to}
-use Rattle.settlement_run.proofs.Parts.{then_goes, then_went, run_none, run_next}
+use Rattle.settlement_run.proofs.Parts.{by_refusal, then_goes, then_went, run_none, run_next}
 
 -- the book of a part that goes on and of what follows
 then_book : (part : Part) (next : Book → Part) → part.refusal ≡ 0 → (and_then part next).book ≡ (next part.book).book
@@ -29,14 +27,9 @@ module _ (call : Call) (book : Book) where
   event_accepted : (event_part call book).refusal ≡ 0
       → (refusal call book owners ≡ 0) × ((event_part call book).book ≡ book_after call book)
   unfolding event_part
-  event_accepted goes = by_number (ℕ_discrete (refusal call book owners) 0)
-    where
-      by_number : Dec (refusal call book owners ≡ 0)
-          → (refusal call book owners ≡ 0) × ((event_part call book).book ≡ book_after call book)
-      by_number (yes accepted) =
-          (accepted, ap (λ (p : Part). p.book) (answer_accepted (refusal call book owners) _ _ accepted))
-      by_number (no refused) =
-          absurd (refused (sym (ap (λ (p : Part). p.refusal) (answer_refused (refusal call book owners) _ _ refused)) ∙ goes))
+  event_accepted =
+      by_refusal (λ (p : Part). p.refusal ≡ 0 → (refusal call book owners ≡ 0) × (p.book ≡ book_after call book))
+      (refusal call book owners) _ _ (λ accepted _. (accepted, refl)) (λ refused goes. absurd (refused goes))
 
   -- a call that keeps the hours keeps them also where it is not due
   due_hours : (book_after call book).hours ≡ book.hours → (if_due call book).refusal ≡ 0 → (if_due call book).book.hours ≡ book.hours
@@ -57,21 +50,19 @@ module _ (file block : List ℕ) (book : Book) where
   hour_goes : (hour_part file block book).refusal ≡ 0
       → (book.hours < hours_in_year) × ((hour_part file block book).book.hours ≡ suc book.hours)
   unfolding hour_part
-  hour_goes goes = by_number (ℕ_discrete (decode_refusal (length block) nodes) 0)
+  hour_goes =
+      by_refusal (λ (p : Part). p.refusal ≡ 0 → (book.hours < hours_in_year) × (p.book.hours ≡ suc book.hours))
+      (decode_refusal (length block) nodes) _ _ settled (λ broken goes. absurd (broken goes))
     where
-      by_number : Dec (decode_refusal (length block) nodes ≡ 0)
-          → (book.hours < hours_in_year) × ((hour_part file block book).book.hours ≡ suc book.hours)
-      by_number (yes whole) =
-          let is : hour_part file block book ≡ event_part call book = answer_accepted (decode_refusal (length block) nodes) _ _ whole in
-          let shown = event_accepted call book (sym (ap (λ (p : Part). p.refusal) is) ∙ goes) in (
+      settled : decode_refusal (length block) nodes ≡ 0 → (event_part call book).refusal ≡ 0
+          → (book.hours < hours_in_year) × ((event_part call book).book.hours ≡ suc book.hours)
+      settled whole goes =
+          let shown = event_accepted call book goes in (
             (hour_accepted file (prices_in block) (amount_in block) book owners shown.0).in_year,
-            ap (λ (p : Part). p.book.hours) is
-                ∙ ap (λ (b : Book). b.hours) shown.1
+            ap (λ (b : Book). b.hours) shown.1
                 ∙ hour_hours file (prices_in block) (amount_in block) book
                 ∙ add-one book.hours,
           )
-      by_number (no broken) =
-          absurd (broken (sym (ap (λ (p : Part). p.refusal) (answer_refused (decode_refusal (length block) nodes) _ _ broken)) ∙ goes))
 
   step_goes : (step_part file block book).refusal ≡ 0
       → (book.hours < hours_in_year) × ((step_part file block book).book.hours ≡ suc book.hours)

@@ -1,4 +1,5 @@
 pub mod Appending
+pub mod Begun
 pub mod BookAfter
 pub mod EnoughBlocks
 pub mod Parts

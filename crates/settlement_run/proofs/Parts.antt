@@ -4,10 +4,10 @@ use Prim.Native.Nat.{ℕ, zero, suc, ◌+◌, ◌-◌, ◌≤◌}
 use mathlib.Core.Path.{◌≡◌, refl, sym, ap, subst, ◌∙◌}
 use mathlib.Core.Bool.{Bool}
 use mathlib.Core.List.{List, ◌++◌, append-nil}
-use native.Mathlib.Decide.{ℕ_discrete}
 use native.Mathlib.Nat.{zero-add, suc-add}
 use native.Mathlib.Omega.{arith}
 use lib.ListN.{length}
+use Rattle.numbers.specs.Refusals.{answer_by}
 use Rattle.numbers.proofs.Refusals.{answer_accepted, answer_refused}
 use Rattle.settlement.specs.declared.Book.{Book}
 use Rattle.settlement_run.specs.declared.Run.{Run}
@@ -16,6 +16,12 @@ use Rattle.settlement_run.specs.Calls.{standing}
 use Rattle.settlement_run.specs.InnerContracts.{ending, StandsAt}
 
 -- ---- one part after another
+
+-- what holds of the answer by a refusal number: of the accepted one, and of the refused one
+pub by_refusal : {A : Type 0} (P : A → Type 0) (refusal : ℕ) (accepted refused : A) → (refusal ≡ 0 → P accepted)
+    → ((refusal ≡ 0 → ⊥) → P refused) → P (answer_by refusal accepted refused)
+by_refusal P zero accepted refused goes stops = goes refl
+by_refusal P (suc n) accepted refused goes stops = stops (λ e. omega arith)
 
 module _ (part : Part) (next : Book → Part) where
   pub then_goes : part.refusal ≡ 0 → and_then part next ≡ behind part (next part.book)
@@ -26,13 +32,17 @@ module _ (part : Part) (next : Book → Part) where
   unfolding and_then
   then_stops stopped = answer_refused part.refusal _ part stopped
 
+  -- what holds of the two together: of both where the first goes on, and of the first alone
+  pub by_first : (P : Part → Type 0) → (part.refusal ≡ 0 → P (behind part (next part.book))) → ((part.refusal ≡ 0 → ⊥) → P part)
+      → P (and_then part next)
+  unfolding and_then
+  by_first P goes stops = by_refusal P part.refusal _ part goes stops
+
   -- the two together go on: so does each of them
   pub then_went : (and_then part next).refusal ≡ 0 → (part.refusal ≡ 0) × ((next part.book).refusal ≡ 0)
-  then_went goes = by_first (ℕ_discrete part.refusal 0)
-    where
-      by_first : Dec (part.refusal ≡ 0) → (part.refusal ≡ 0) × ((next part.book).refusal ≡ 0)
-      by_first (yes first) = (first, sym (ap (λ (p : Part). p.refusal) (then_goes first)) ∙ goes)
-      by_first (no stopped) = absurd (stopped (sym (ap (λ (p : Part). p.refusal) (then_stops stopped)) ∙ goes))
+  then_went =
+      by_first (λ (p : Part). p.refusal ≡ 0 → (part.refusal ≡ 0) × ((next part.book).refusal ≡ 0))
+      (λ first goes. (first, goes)) (λ stopped goes. absurd (stopped goes))
 
 -- ---- a run that stands where a part ends, and the next part
 
@@ -40,33 +50,25 @@ module _ (part : Part) (run : Run) (at : StandsAt part run) (next : Book → Par
   run_refusal : run.refusal ≡ part.refusal
   run_refusal = ap (λ (p : Part). p.refusal) at
 
+  run_goes : part.refusal ≡ 0 → and_then (standing run) next ≡ behind (standing run) (next run.book)
+  run_goes goes = then_goes (standing run) next (run_refusal ∙ goes)
+
+  run_stops : (part.refusal ≡ 0 → ⊥) → and_then (standing run) next ≡ standing run
+  run_stops stopped = then_stops (standing run) next (λ goes. stopped (sym run_refusal ∙ goes))
+
   -- it adds the lines that it adds to the part
   pub adds : (and_then part next).printed ≡ part.printed ++ (and_then (standing run) next).printed
-  adds = by_part (ℕ_discrete part.refusal 0)
-    where
-      by_part : Dec (part.refusal ≡ 0) → (and_then part next).printed ≡ part.printed ++ (and_then (standing run) next).printed
-      by_part (yes goes) =
-          ap (λ (p : Part). p.printed) (then_goes part next goes)
-          ∙ ap (λ (p : Part). part.printed ++ (next p.book).printed) (sym at)
-          ∙ sym (ap (λ (p : Part). part.printed ++ p.printed) (then_goes (standing run) next (run_refusal ∙ goes)))
-      by_part (no stopped) =
-          ap (λ (p : Part). p.printed) (then_stops part next stopped)
-          ∙ sym (append-nil part.printed)
-          ∙ sym (ap (λ (p : Part). part.printed ++ p.printed) (then_stops (standing run) next (λ goes. stopped (sym run_refusal ∙ goes))))
+  adds =
+      by_first part next (λ (p : Part). p.printed ≡ part.printed ++ (and_then (standing run) next).printed)
+      (λ goes. rw (run_goes goes) (ap (λ (p : Part). part.printed ++ (next p.book).printed) (sym at)))
+      (λ stopped. rw (run_stops stopped) (sym (append-nil part.printed)))
 
   -- and where it then stands, the part with the next one ends
   pub stands_next : (result : Run) → StandsAt (and_then (standing run) next) result → StandsAt (and_then part next) result
-  stands_next result stands = stands ∙ by_part (ℕ_discrete part.refusal 0)
-    where
-      by_part : Dec (part.refusal ≡ 0) → ending (and_then (standing run) next) ≡ ending (and_then part next)
-      by_part (yes goes) =
-          ap ending (then_goes (standing run) next (run_refusal ∙ goes))
-          ∙ ap (λ (p : Part). ending (next p.book)) at
-          ∙ sym (ap ending (then_goes part next goes))
-      by_part (no stopped) =
-          ap ending (then_stops (standing run) next (λ goes. stopped (sym run_refusal ∙ goes)))
-          ∙ at
-          ∙ sym (ap ending (then_stops part next stopped))
+  stands_next result stands =
+      stands
+      ∙ by_first part next (λ (p : Part). ending (and_then (standing run) next) ≡ ending p)
+      (λ goes. rw (run_goes goes) (ap (λ (p : Part). ending (next p.book)) at)) (λ stopped. rw (run_stops stopped) at)
 
 -- ---- block by block
 

@@ -4,7 +4,6 @@ use Prim.Native.Nat.{ℕ, ◌+◌, ◌≤◌, ◌<◌}
 use mathlib.Core.Path.{◌≡◌, refl, sym, subst, ◌∙◌}
 use mathlib.Core.Bool.{Bool, true, false, ◌&&◌, false≢true}
 use mathlib.Core.List.{List, [], ◌∷◌, ◌++◌, append_assoc, append-nil}
-use native.Mathlib.Decide.{ℕ_discrete}
 use native.Mathlib.Omega.{arith}
 use lib.Dec.{eqb}
 use lib.IntN.{ℤ}
@@ -17,8 +16,9 @@ use Rattle.settlement.proofs.RunLaws.{written_long, credit_line, year_open}
 use Rattle.statement_text.specs.Text.{Line}
 use Rattle.settlement_run.specs.Run.{tag_of}
 use Rattle.settlement_run.specs.PrintedClaim.{event_credit_in, sum_lines, number_in, ledger_lines, CreditsPrinted}
+use Rattle.settlement_run.proofs.Parts.{by_refusal}
 use Rattle.settlement_run.proofs.PrintedLines.{sum_none, sum_append, own_credits, other_credits}
-use Rattle.settlement_run.proofs.PrintedSums.{entry_lines, sum_of_accepted, sum_of_refused, sum_of_next, sum_of_start}
+use Rattle.settlement_run.proofs.PrintedSums.{lines_of, entry_lines, sum_of_accepted, sum_of_next, sum_of_start}
 
 -- ---- the calls of a kind, counted
 
@@ -90,14 +90,13 @@ module _ (past : List Entry) (entry : Entry) (ledger : IsLedger past)
   module _ (owner : ℕ) (inside : owner < owners) where
     none_here : (call : Call) (n : ℕ) → (count_of call past ≤ n → n < count_of call (entry ∷ past) → ⊥)
         → sum_lines (event_credit_in (tag_of call) n owner) (entry_lines past entry) ≡ 0
-    none_here call n outside = by_refusal (ℕ_discrete entry.result.refusal 0)
-      where
-        by_refusal : Dec (entry.result.refusal ≡ 0) → sum_lines (event_credit_in (tag_of call) n owner) (entry_lines past entry) ≡ 0
-        by_refusal (yes accepted) =
-            sum_of_accepted (event_credit_in (tag_of call) n owner) past entry accepted
-            ∙ other_credits (tag_of entry.call) (number_in entry.call past) owner entry.written
-            (omega (arith, inside, written_long past entry answered accepted)) (tag_of call) n (apart accepted call n outside)
-        by_refusal (no refused) = sum_of_refused (event_credit_in (tag_of call) n owner) past entry refused
+    none_here call n outside =
+        by_refusal (λ (lines : List Line). sum_lines (event_credit_in (tag_of call) n owner) lines ≡ 0) entry.result.refusal
+        (lines_of past entry) []
+        (λ accepted.
+        other_credits (tag_of entry.call) (number_in entry.call past) owner entry.written
+        (omega (arith, inside, written_long past entry answered accepted)) (tag_of call) n (apart accepted call n outside))
+        (λ _. sum_none (event_credit_in (tag_of call) n owner))
 
     its_own : entry.result.refusal ≡ 0
         → sum_lines (event_credit_in (tag_of entry.call) (number_in entry.call past) owner) (entry_lines past entry)

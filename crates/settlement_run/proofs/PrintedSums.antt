@@ -3,11 +3,10 @@
 use Prim.Native.Nat.{ℕ, zero, suc, ◌+◌, ◌<◌}
 use mathlib.Core.Path.{◌≡◌, refl, sym, ap, ◌∙◌}
 use mathlib.Core.List.{List, [], ◌∷◌}
-use native.Mathlib.Decide.{ℕ_discrete}
 use native.Mathlib.Omega.{arith}
 use Rattle.numbers.specs.Limits.{owners}
 use Rattle.numbers.specs.Refusals.{answer_by}
-use Rattle.numbers.proofs.Refusals.{answer_accepted, answer_refused}
+use Rattle.numbers.proofs.Refusals.{answer_accepted}
 use Rattle.settlement.specs.declared.Book.{Book}
 use Rattle.settlement.specs.Book.{fund_left}
 use Rattle.settlement.specs.Events.{Answered}
@@ -17,6 +16,7 @@ use Rattle.settlement.proofs.RunLaws.{over_none, written_long, credit_line, char
 use Rattle.statement_text.specs.Text.{Line, event_lines}
 use Rattle.settlement_run.specs.Run.{Part, tag_of, last_line, all_lines}
 use Rattle.settlement_run.specs.PrintedClaim.{credit_in, charge_in, fund_in, sum_lines, number_in, ledger_lines}
+use Rattle.settlement_run.proofs.Parts.{by_refusal}
 use Rattle.settlement_run.proofs.PrintedLines.{sum_none, sum_append, sum_one, credits_of_event, charges_of_event, no_fund_of_event}
 
 -- ---- the lines of an entry
@@ -31,10 +31,6 @@ entry_lines past entry = answer_by entry.result.refusal (lines_of past entry) []
 module _ (part : Line → ℕ) (past : List Entry) (entry : Entry) where
   pub sum_of_accepted : entry.result.refusal ≡ 0 → sum_lines part (entry_lines past entry) ≡ sum_lines part (lines_of past entry)
   sum_of_accepted accepted = ap (sum_lines part) (answer_accepted entry.result.refusal (lines_of past entry) [] accepted)
-
-  pub sum_of_refused : (entry.result.refusal ≡ 0 → ⊥) → sum_lines part (entry_lines past entry) ≡ 0
-  sum_of_refused refused =
-      ap (sum_lines part) (answer_refused entry.result.refusal (lines_of past entry) [] refused) ∙ sum_none part
 
   pub sum_of_next : sum_lines part (ledger_lines (entry ∷ past)) ≡ sum_lines part (ledger_lines past) + sum_lines part (entry_lines past entry)
   unfolding ledger_lines
@@ -55,11 +51,12 @@ module _ (part : Line → ℕ) (term : List Entry → Entry → ℕ)
   sum_ledger : (ledger : List Entry) → IsLedger ledger → sum_lines part (ledger_lines ledger) ≡ sum_over term ledger
   sum_ledger [] answered = sum_of_start part ∙ sym (over_none term)
   sum_ledger (entry ∷ past) answered =
-      omega (arith, sum_of_next part past entry, over_next term entry past, sum_ledger past answered.1, here (ℕ_discrete entry.result.refusal 0))
+      omega (arith, sum_of_next part past entry, over_next term entry past, sum_ledger past answered.1, here)
     where
-      here : Dec (entry.result.refusal ≡ 0) → sum_lines part (entry_lines past entry) ≡ term past entry
-      here (yes accepted) = sum_of_accepted part past entry accepted ∙ of_accepted past entry answered.0 accepted
-      here (no refused) = sum_of_refused part past entry refused ∙ sym (of_refused past entry refused)
+      here : sum_lines part (entry_lines past entry) ≡ term past entry
+      here =
+          by_refusal (λ (lines : List Line). sum_lines part lines ≡ term past entry) entry.result.refusal (lines_of past entry) []
+          (of_accepted past entry answered.0) (λ refused. sum_none part ∙ sym (of_refused past entry refused))
 
 module _ (owner : ℕ) (inside : owner < owners) where
   pub credits_of_ledger : (ledger : List Entry) → IsLedger ledger → sum_lines (credit_in owner) (ledger_lines ledger) ≡ sum_over (credit owner) ledger

@@ -4,7 +4,6 @@ use Prim.Native.Nat.{ℕ, zero, suc, ◌+◌}
 use mathlib.Core.Path.{◌≡◌, refl, sym, ap, ap₂, subst, ◌∙◌}
 use mathlib.Core.Bool.{Bool, true, false, cond}
 use mathlib.Core.List.{List, [], ◌∷◌, ◌++◌, append_assoc, append-nil}
-use native.Mathlib.Decide.{ℕ_discrete}
 use native.Mathlib.Omega.{arith}
 use lib.ListN.{length}
 use Rattle.numbers.specs.Limits.{owners, nodes}
@@ -26,32 +25,30 @@ use Rattle.hour_block.specs.Block.{amount_in, prices_in, decode_refusal}
 use Rattle.statement_text.specs.Text.{Line, event_lines}
 use Rattle.settlement_run.specs.Run.{Part, goes_on, stops, behind, and_then, tag_of, number_of, asked_of, event_part, if_due, hour_part, step_part, opening_refusal, opening, block_at, run_to}
 use Rattle.settlement_run.specs.PrintedClaim.{collected_in, targets_in, number_in, ledger_lines}
-use Rattle.settlement_run.proofs.Parts.{then_goes, then_stops}
+use Rattle.settlement_run.proofs.Parts.{by_refusal, by_first, then_goes, then_stops}
 
 -- ---- parts in a row
 
 -- what comes behind two parts in a row comes behind the second
 behind_then : (first part : Part) (next : Book → Part) → behind first (and_then part next) ≡ and_then (behind first part) next
-behind_then first part next = by_refusal (ℕ_discrete part.refusal 0)
-  where
-    by_refusal : Dec (part.refusal ≡ 0) → behind first (and_then part next) ≡ and_then (behind first part) next
-    by_refusal (yes on) =
-        ap (behind first) (then_goes part next on)
-        ∙ ap₂
-        (λ (calls : List Asked) (printed : List Line).
-        record {
-          calls = calls;
-          printed = printed;
-          refusal = (next part.book).refusal;
-          tag = (next part.book).tag;
-          number = (next part.book).number;
-          faulty = (next part.book).faulty;
-          book = (next part.book).book;
-        })
-        (append_assoc (next part.book).calls part.calls first.calls)
-        (sym (append_assoc first.printed part.printed (next part.book).printed))
-        ∙ sym (then_goes (behind first part) next on)
-    by_refusal (no stopped) = ap (behind first) (then_stops part next stopped) ∙ sym (then_stops (behind first part) next stopped)
+behind_then first part next =
+    by_first part next (λ (p : Part). behind first p ≡ and_then (behind first part) next)
+    (λ on.
+    ap₂
+    (λ (calls : List Asked) (printed : List Line).
+    record {
+      calls = calls;
+      printed = printed;
+      refusal = (next part.book).refusal;
+      tag = (next part.book).tag;
+      number = (next part.book).number;
+      faulty = (next part.book).faulty;
+      book = (next part.book).book;
+    })
+    (append_assoc (next part.book).calls part.calls first.calls)
+    (sym (append_assoc first.printed part.printed (next part.book).printed))
+    ∙ sym (then_goes (behind first part) next on))
+    (λ stopped. sym (then_stops (behind first part) next stopped))
 
 -- ---- the ledger of a part that began with a fresh book
 
@@ -145,12 +142,11 @@ module _ (file input : List ℕ) (blocks : ℕ) (run : Part) (before : Made file
           counted = λ e. ap (sum_over hour_count) (sym next) ∙ counted e;
         }
 
-    event_accepted : refusal call book owners ≡ 0 → Made file input (at_hour call 1 + blocks) (behind run (event_part call book))
-    unfolding event_part
+    event_accepted : refusal call book owners ≡ 0
+        → Made file input (at_hour call 1 + blocks)
+        (behind run (goes_on (asked_of call ∷ []) (event_lines (tag_of call) (number_of call book) (lines call book)) (book_after call book)))
     event_accepted accepted =
-        subst (λ (part : Part). Made file input (at_hour call 1 + blocks) (behind run part))
-        (sym (answer_accepted (refusal call book owners) _ _ accepted))
-        (made_next (event_lines (tag_of call) (number_of call book) (lines call book)) 0 0 0 0 (book_after call book)
+        made_next (event_lines (tag_of call) (number_of call book) (lines call book)) 0 0 0 0 (book_after call book)
         (answer_accepted (refusal call book owners) _ _ accepted)
         (ap₂ (event_lines (tag_of call)) (number_is call run.calls) (sym (answer_accepted (refusal call book owners) (lines call book) _ accepted))
         ∙ sym (answer_accepted entry.result.refusal _ [] accepted))
@@ -159,34 +155,31 @@ module _ (file input : List ℕ) (blocks : ℕ) (run : Part) (before : Made file
         (λ owner.
         sum_accepted (positive_target owner) (λ hour. positive (target file (prices_in (block_at input hour)) hour owner)) past entry
         (before.targeted owner) (parts.target owner ∙ of_next.positives owner) parts.hour)
-        (λ _. omega (arith, before.counted on, over_next hour_count entry past, parts.hour)))
+        (λ _. omega (arith, before.counted on, over_next hour_count entry past, parts.hour))
       where
         parts : Parts past entry
         parts = accepted_parts past entry (record { gives = refl; writes = refl }) accepted
 
-    event_refused : (refusal call book owners ≡ 0 → ⊥) → Made file input (at_hour call 1 + blocks) (behind run (event_part call book))
-    unfolding event_part
+    event_refused : (refusal call book owners ≡ 0 → ⊥)
+        → Made file input (at_hour call 1 + blocks)
+        (behind run (stops (asked_of call ∷ []) (refusal call book owners) (tag_of call) (number_of call book) (record_of call (refusal call book owners)) book))
     event_refused refused =
         let none = refused_nothing past entry refused in
-        subst (λ (part : Part). Made file input (at_hour call 1 + blocks) (behind run part))
-        (sym (answer_refused (refusal call book owners) _ _ refused))
-        (made_next [] (refusal call book owners) (tag_of call) (number_of call book) (record_of call (refusal call book owners)) book
+        made_next [] (refusal call book owners) (tag_of call) (number_of call book) (record_of call (refusal call book owners)) book
         (answer_refused (refusal call book owners) _ _ refused)
         (sym (answer_refused entry.result.refusal _ [] refused))
         (sum_refused collection (λ hour. positive (amount_in (block_at input hour))) past entry before.collected none.collected none.hour)
         (λ owner.
         sum_refused (positive_target owner) (λ hour. positive (target file (prices_in (block_at input hour)) hour owner)) past entry
         (before.targeted owner) (none.target owner) none.hour)
-        (λ e. absurd (refused e)))
+        (λ e. absurd (refused e))
 
     made_event : Made file input (at_hour call 1 + blocks) (behind run (event_part call run.book))
+    unfolding event_part
     made_event =
         subst (λ (at : Book). Made file input (at_hour call 1 + blocks) (behind run (event_part call at))) before.reached
-        (by_refusal (ℕ_discrete (refusal call book owners) 0))
-      where
-        by_refusal : Dec (refusal call book owners ≡ 0) → Made file input (at_hour call 1 + blocks) (behind run (event_part call book))
-        by_refusal (yes accepted) = event_accepted accepted
-        by_refusal (no refused) = event_refused refused
+        (by_refusal (λ (part : Part). Made file input (at_hour call 1 + blocks) (behind run part)) (refusal call book owners) _ _
+        event_accepted event_refused)
 
   -- a part that makes no call
   made_still : (now refusal tag number : ℕ) → (refusal ≡ 0 → now ≡ blocks)
@@ -217,48 +210,32 @@ module _ (file input : List ℕ) (blocks : ℕ) (run : Part) (before : Made file
   -- the hour of a block
   made_hour : Made file input (suc blocks) (behind run (hour_part file (block_at input blocks) run.book))
   unfolding hour_part
-  made_hour = by_refusal (ℕ_discrete number 0)
+  made_hour =
+      by_refusal (λ (part : Part). Made file input (suc blocks) (behind run part)) (decode_refusal (length (block_at input blocks)) nodes) _ _
+      (λ _. subst (λ (n : ℕ). Made file input n (behind run (event_part call run.book))) next (made_event call (record { amount = refl; positives = λ owner. refl })))
+      (λ broken. made_still (suc blocks) _ 72 run.book.hours (λ e. absurd (broken e)))
     where
-      number : ℕ
-      number = decode_refusal (length (block_at input blocks)) nodes
-
       call : Call
       call = hour_call file (prices_in (block_at input blocks)) (amount_in (block_at input blocks))
 
       next : 1 + blocks ≡ suc blocks
       next = omega arith
 
-      by_refusal : Dec (number ≡ 0)
-          → Made file input (suc blocks)
-          (behind run (answer_by number (event_part call run.book) (stops [] number 72 run.book.hours 0 run.book)))
-      by_refusal (yes whole) =
-          subst (λ (part : Part). Made file input (suc blocks) (behind run part))
-          (sym (answer_accepted number (event_part call run.book) (stops [] number 72 run.book.hours 0 run.book) whole))
-          (subst (λ (n : ℕ). Made file input n (behind run (event_part call run.book))) next
-          (made_event call (record { amount = refl; positives = λ owner. refl })))
-      by_refusal (no broken) =
-          subst (λ (part : Part). Made file input (suc blocks) (behind run part))
-          (sym (answer_refused number (event_part call run.book) (stops [] number 72 run.book.hours 0 run.book) broken))
-          (made_still (suc blocks) number 72 run.book.hours (λ e. absurd (broken e)))
-
 -- ---- the run
 
 -- one part after another
 made_then : (file input : List ℕ) (blocks now : ℕ) (part : Part) (next : Book → Part) → Made file input blocks part
     → (part.refusal ≡ 0 → Made file input now (behind part (next part.book))) → Made file input now (and_then part next)
-made_then file input blocks now part next before after = by_refusal (ℕ_discrete part.refusal 0)
-  where
-    by_refusal : Dec (part.refusal ≡ 0) → Made file input now (and_then part next)
-    by_refusal (yes on) = subst (Made file input now) (sym (then_goes part next on)) (after on)
-    by_refusal (no stopped) =
-        subst (Made file input now) (sym (then_stops part next stopped))
-        (record {
-          reached = before.reached;
-          prints = before.prints;
-          collected = before.collected;
-          targeted = before.targeted;
-          counted = λ e. absurd (stopped e);
-        })
+made_then file input blocks now part next before after =
+    by_first part next (Made file input now) after
+    (λ stopped.
+    record {
+      reached = before.reached;
+      prints = before.prints;
+      collected = before.collected;
+      targeted = before.targeted;
+      counted = λ e. absurd (stopped e);
+    })
 
 module _ (file input : List ℕ) where
   made_step : (blocks : ℕ) (run : Part) → Made file input blocks run → run.refusal ≡ 0

@@ -1,6 +1,6 @@
 -- What the calls of a run promise: the text that they append to a lent buffer, and where the run then stands.
 -- Assumes nothing.
-use Rattle.std.specs.Prelude.{ℕ, ◌+◌, ◌*◌, Bool, false, cond, List, [], ltb, length}
+use Rattle.std.specs.Prelude.{ℕ, ◌+◌, ◌*◌, Bool, false, cond, List, [], ltb, length, Option, is_some, unwrap_or}
 use Rattle.numbers.specs.Limits.{owners}
 use Rattle.statement_text.specs.Buffer.{text_after, end_after}
 use Rattle.statement_text.specs.Text.{line_text, text_of, line_room, event_room}
@@ -36,6 +36,10 @@ run_at part full end =
 
 abbrev pub begun : Bool → ℕ → Run
 begun readable bytes = run_at (opening readable bytes) false 0
+
+-- over a rights file of so many bytes, if it can be read
+abbrev pub begun_over : Option ℕ → Run
+begun_over file = begun (is_some file) (unwrap_or file 0)
 
 -- ---- a block
 

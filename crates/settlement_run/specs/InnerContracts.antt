@@ -1,16 +1,19 @@
 -- For the contracts of inner functions alone, no part of what a call of a run promises: a part of a run is appended.
 -- Assumes nothing.
-use Rattle.std.specs.Prelude.{ℕ, ◌+◌, ◌≤◌, ◌≡◌, List, [], ℤ}
+use Rattle.std.specs.Prelude.{ℕ, ◌+◌, ◌≤◌, ◌≡◌, List, [], ℤ, pos, Result, Ok, Err}
 use Rattle.numbers.specs.Limits.{owners}
-use Rattle.numbers.specs.Refusals.{answer_by}
-use Rattle.settlement.specs.declared.End.{End}
-use Rattle.settlement.specs.declared.End.TheVariants.{Month, Year}
-use Rattle.settlement.specs.Events.{Settled}
+use Rattle.numbers.specs.declared.refusal.Refusal.{Refusal}
+use Rattle.numbers.specs.Refusals.{number_in, record_in}
+use Rattle.settlement.specs.declared.Book.{Book}
+use Rattle.settlement.specs.declared.Event.{Event}
+use Rattle.settlement.specs.declared.Event.TheVariants.{Hour, MonthEnd, YearEnd}
+use Rattle.settlement.specs.declared.Funding.{Funding}
+use Rattle.settlement.specs.Events.{Call, hour_call, month_end_call, year_end_call}
 use Rattle.statement_text.specs.InnerContracts.{Wrote}
 use Rattle.statement_text.specs.Text.{text_of, event_lines, event_room}
 use Rattle.settlement_run.specs.declared.Run.{Run}
-use Rattle.settlement_run.specs.Run.{Part, goes_on, stops}
-use Rattle.settlement_run.specs.Calls.{standing, run_at}
+use Rattle.settlement_run.specs.Run.{Part, goes_on, stops, tag_of, number_of}
+use Rattle.settlement_run.specs.Calls.{standing}
 
 -- how a part ends: what comes behind it sees no more of it
 abbrev pub ending : Part → Part
@@ -27,17 +30,19 @@ pub record Appended (part : Part) (run : Run) (before : List ℕ) (result : Run)
   pub short : result.end ≤ run.end + event_room owners
   pub stands : StandsAt part result
 
--- an event that gave this result and these lines
-abbrev pub result_part : ℕ → ℕ → Settled → List ℤ → Part
-result_part tag number settled lines =
-    answer_by settled.refusal (goes_on [] (event_lines tag number lines) settled.book)
-    (stops [] settled.refusal tag number settled.faulty settled.book)
+-- some call of an event: each call of it has the same letter and number
+abbrev pub call_at : Event → Call
+call_at Hour = hour_call [] [] (pos 0)
+call_at MonthEnd = month_end_call
+call_at YearEnd = year_end_call
 
--- the run with another refusal
-abbrev pub refused_by : Run → ℕ → ℕ → ℕ → ℕ → Run
-refused_by run refusal tag number faulty = run_at (stops [] refusal tag number faulty run.book) run.full run.end
+-- a refused event, by the book before it
+abbrev pub refused_part : Event → Book → Refusal → Part
+refused_part event book refusal =
+    stops [] (number_in refusal) (tag_of (call_at event)) (number_of (call_at event) book) (record_in refusal) book
 
--- the number of a month end or a year end beside the lines, with so many months closed
-abbrev pub end_number : End → ℕ → ℕ
-end_number Month months = months
-end_number Year months = 0
+-- an event that was answered so, with the book after it and these lines
+abbrev pub answered_part : Event → Book → Result Funding Refusal → Book → List ℤ → Part
+answered_part event book (Ok funding) after lines =
+    goes_on [] (event_lines (tag_of (call_at event)) (number_of (call_at event) book) lines) after
+answered_part event book (Err refusal) after lines = refused_part event book refusal

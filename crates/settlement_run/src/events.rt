@@ -1,31 +1,30 @@
 // The events of a block, on a run with room for their lines: each is settled on the run's book, and its lines are appended.
-ghost use Rattle.std.specs.Prelude.{◌+◌, ◌≤◌, ◌≡◌, length};
+// That room is asked for by three functions: it is there before an event and no longer behind it, so that no field can hold it.
+ghost use Rattle.std.specs.Prelude.{◌+◌, ◌≤◌, ◌≡◌, [], length};
 ghost use Rattle.numbers.specs.Limits.{owners};
 ghost use Rattle.settlement.specs.Ends.{end_call};
-ghost use Rattle.settlement.specs.Events.{in_numbers};
 ghost use Rattle.statement_text.specs.Text.{event_room};
-ghost use Rattle.settlement_run.specs.Run.{and_then, hour_part, if_due, tag_of};
-ghost use Rattle.settlement_run.specs.Calls.{standing};
-ghost use Rattle.settlement_run.specs.InnerContracts.{Appended, end_number, refused_by, result_part};
+ghost use Rattle.settlement_run.specs.Run.{and_then, goes_on, hour_part, if_due, number_of, tag_of};
+ghost use Rattle.settlement_run.specs.Calls.{run_at, standing};
+ghost use Rattle.settlement_run.specs.InnerContracts.{Appended, answered_part, call_at, refused_part};
 
 use crate::Run;
-use numbers::{NODES, OWNERS};
-use settlement::{End, Settled};
+use numbers::{NODES, OWNERS, Refusal};
+use settlement::{Book, End, Event, Settled};
 
 // The next hour, from its bytes.
 pub(crate) fn settle_hour(run: Run, rights: &[u8], block: &[u8], text: &mut [u8]) -> Run
     requires { run.end + event_room owners ≤ length text.old }
     ensures { Appended (hour_part rights.now block.now run.book) run text.old result text.new }
 {
-    let book = run.book;
     let mut prices = [0i32; NODES];
     match hour_block::decode(block, &mut prices) {
         Ok(amount) => {
             let mut lines = [0i64; OWNERS];
-            let settled = book.hour(rights, &prices, amount, &mut lines);
-            print_event(run, b'H', book.hours, settled, &lines, text)
+            let settled = run.book.hour(rights, &prices, amount, &mut lines);
+            print_event(run, Event::Hour, settled, &lines, text)
         }
-        Err(refusal) => with_refusal(run, refusal.number(), b'H', book.hours, 0),
+        Err(refusal) => stopped(run, Event::Hour, refusal),
     }
 }
 
@@ -37,64 +36,76 @@ pub(crate) fn close_if_due(run: Run, end: End, text: &mut [u8]) -> Run
     if run.refusal != 0 {
         return run;
     }
-    let book = run.book;
-    if !book.is_due(end.into()) {
-        return with_refusal(run, 0, 0, 0, 0);
+    let event = Event::from(end);
+    if !run.book.is_due(event) {
+        return going_on(run);
     }
     let mut lines = [0i64; OWNERS];
-    let settled = book.close(end, &mut lines);
-    let number = number_of(end, book.months);
-    print_event(run, tag_of(end), number, settled, &lines, text)
-}
-
-// An `M` with the month's number, a `Y` with 0.
-fn tag_of(end: End) -> u8
-    ensures { result ≡ tag_of (end_call end) }
-{
-    match end {
-        End::Month => b'M',
-        End::Year => b'Y',
-    }
-}
-
-fn number_of(end: End, months: u64) -> u64
-    ensures { result ≡ end_number end months }
-{
-    match end {
-        End::Month => months,
-        End::Year => 0,
-    }
+    let settled = run.book.close(end, &mut lines);
+    print_event(run, event, settled, &lines, text)
 }
 
 // An accepted event's lines are appended and its book is taken; a refused event stops the run.
-fn print_event(
-    mut run: Run,
-    tag: u8,
-    number: u64,
-    settled: Settled,
-    lines: &[i64],
-    text: &mut [u8],
-) -> Run
+fn print_event(mut run: Run, event: Event, settled: Settled, lines: &[i64], text: &mut [u8]) -> Run
     requires { (run.end + event_room owners ≤ length text.old) × (length lines.now ≡ owners) }
-    ensures { Appended (result_part tag number (in_numbers settled) lines.now) run text.old result text.new }
+    ensures { Appended (answered_part event run.book settled.outcome settled.book lines.now) run text.old result text.new }
 {
-    run.book = settled.book;
     match settled.outcome {
         Ok(_) => {
-            run.end = statement_text::write_event(tag, number, lines, text, run.end);
-            with_refusal(run, 0, 0, 0, 0)
+            let number = number_of(event, &run.book);
+            run.end = statement_text::write_event(tag_of(event), number, lines, text, run.end);
+            run.book = settled.book;
+            going_on(run)
         }
-        Err(refusal) => with_refusal(run, refusal.number(), tag, number, refusal.record()),
+        Err(refusal) => stopped(run, event, refusal),
     }
 }
 
-// The run with this refusal of this event, all 0 where it goes on.
-fn with_refusal(mut run: Run, refusal: u8, tag: u8, number: u64, faulty: u64) -> Run
-    ensures { result ≡ refused_by run refusal tag number faulty }
+// The run with no refusal.
+fn going_on(run: Run) -> Run
+    ensures { result ≡ run_at (goes_on [] [] run.book) run.full run.end }
 {
-    run.refusal = refusal;
-    run.tag = tag;
-    run.number = number;
-    run.faulty = faulty;
-    run
+    Run {
+        refusal: 0,
+        tag: 0,
+        number: 0,
+        faulty: 0,
+        ..run
+    }
+}
+
+// The run that a refusal of this event stops.
+fn stopped(run: Run, event: Event, refusal: Refusal) -> Run
+    ensures { result ≡ run_at (refused_part event run.book refusal) run.full run.end }
+{
+    Run {
+        refusal: refusal.number(),
+        tag: tag_of(event),
+        number: number_of(event, &run.book),
+        faulty: refusal.record(),
+        ..run
+    }
+}
+
+// An `H`, `M` or `Y`. By hand: `Run` holds the letter as a byte, for the C interface, and a `From` for a byte would stand with `Event`, which has
+// no text.
+fn tag_of(event: Event) -> u8
+    ensures { result ≡ tag_of (call_at event) }
+{
+    match event {
+        Event::Hour => b'H',
+        Event::MonthEnd => b'M',
+        Event::YearEnd => b'Y',
+    }
+}
+
+// The hour or month number by the book before the event, 0 for the year.
+fn number_of(event: Event, book: &Book) -> u64
+    ensures { result ≡ number_of (call_at event) book.now }
+{
+    match event {
+        Event::Hour => book.hours,
+        Event::MonthEnd => book.months,
+        Event::YearEnd => 0,
+    }
 }

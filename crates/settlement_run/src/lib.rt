@@ -2,11 +2,12 @@
 
 #![tactic(auto)]
 
-ghost use Rattle.std.specs.Prelude.{◌≡◌};
+ghost use Rattle.std.specs.Prelude.{◌≡◌, is_some, option_map, unwrap_or};
+ghost use Rattle.numbers.specs.Refusals.{number_in};
 ghost use Rattle.statement_text.specs.Buffer.{end_after, text_after};
 ghost use Rattle.statement_text.specs.Sentence.{sentence_room};
 ghost use Rattle.statement_text.specs.Text.{line_room};
-ghost use Rattle.settlement_run.specs.Calls.{begun, closed, last_text, standing, stepped_run, stepped_text};
+ghost use Rattle.settlement_run.specs.Calls.{begun_over, closed, last_text, standing, stepped_run, stepped_text};
 ghost use Rattle.settlement_run.specs.Run.{explanation, opening_refusal};
 
 use numbers::Refusal;
@@ -20,6 +21,9 @@ pub const STEP_ROOM: usize = 3 * statement_text::EVENT_ROOM;
 
 // Where a run stands: whether the last call found too little room in the lent buffer, and the end of the text there; the refusal that
 // stopped the run or 0, with the refused event's letter and number and the record of 7 and 8; the book.
+// Numbers and a flag, for the C interface: its fields are public, a host's run has any refusal number, and `step`, `closing` and `explain`
+// promise a result for each. The text is lent from call to call, so that the run holds the place in it alone. Rights and block, or text, go with it
+// through a step's parts, once each: a struct made for that is no plainer.
 #[derive(Clone, Copy)]
 pub struct Run {
     pub full: bool,
@@ -31,14 +35,16 @@ pub struct Run {
     pub book: Book,
 }
 
-// The run before the first block, over a rights file of so many bytes, if it can be read.
-pub fn opening(readable: bool, bytes: usize) -> Run
-    ensures { result ≡ begun readable bytes }
+// The run before the first block, over a rights file of so many bytes, if it can be read. All fields by hand, as in the run of a host's book, which
+// takes any refusal number: a function for both is no plainer.
+#[tactic(auto, unfolding(crate::specs::Run::opening))]
+pub fn opening(file: Option<usize>) -> Run
+    ensures { result ≡ begun_over file }
 {
     Run {
         full: false,
         end: 0,
-        refusal: opening_refusal(readable, bytes),
+        refusal: opening_refusal(file).map_or(0, Refusal::number),
         tag: 0,
         number: 0,
         faulty: 0,
@@ -46,13 +52,14 @@ pub fn opening(readable: bool, bytes: usize) -> Run
     }
 }
 
-fn opening_refusal(readable: bool, bytes: usize) -> u8
-    ensures { result ≡ opening_refusal readable bytes }
+// Why the run stops before it begins, if it does.
+#[tactic(auto, unfolding(crate::specs::Run::opening_refusal, numbers::specs::Refusals::first_refusal))]
+fn opening_refusal(file: Option<usize>) -> Option<Refusal>
+    ensures { unwrap_or (option_map number_in result) 0 ≡ opening_refusal (is_some file) (unwrap_or file 0) }
 {
-    if readable & (bytes <= rights::FILE_BYTES) {
-        0
-    } else {
-        Refusal::WrongLength.number()
+    match file {
+        Some(bytes) if bytes <= rights::FILE_BYTES => None,
+        _ => Some(Refusal::WrongLength),
     }
 }
 
@@ -74,6 +81,7 @@ pub fn step(mut run: Run, rights: &[u8], block: &[u8], text: &mut [u8]) -> Run
 }
 
 // The last line: both surpluses, or the refusal that stopped the run.
+#[tactic(auto, using(crate::proofs::Stepping::lacks_said, numbers::proofs::Refusals::answer_refused), unfolding(crate::specs::Run::last_line))]
 pub fn closing(mut run: Run, text: &mut [u8]) -> Run
     ensures value { result ≡ closed run text.old }
     ensures text_after { text.new ≡ text_after line_room (last_text run) text.old run.end }

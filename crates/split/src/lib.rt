@@ -11,7 +11,8 @@ ghost use Rattle.split.specs.Split.{payment, allocation, payments_after, stands_
 use numbers::{OWNERS, Refusal};
 
 // Pays the whole part of each share and keeps its remainder. Gives the cents still unpaid.
-// Fund, sum, wants and payments go together through two functions alone, so that a struct of them would be no plainer.
+// Fund, sum, wants and payments go all four together through two functions alone; fund, wants and payments go through four, two of them
+// public, so that a struct of them would be no plainer.
 #[tactic(auto, using(crate::proofs::Shares::whole_parts))]
 fn pay_whole_parts(
     fund: u64,
@@ -25,6 +26,7 @@ fn pay_whole_parts(
     ensures { WholePaid fund wants.now payments.new remainders.new result }
 {
     let mut unpaid = fund;
+    // By index, since it writes two slices: three iterators in a row are no plainer.
     for (i, want) in wants.iter().enumerate() {
         let share = fund * *want;
         let whole = share / sum;
@@ -64,8 +66,8 @@ fn pay_odd_cents(remainders: &[u64], unpaid: u64, payments: &mut [u64])
     requires small { (k : ℕ) → k < length payments.old → get_or payments.old k 0 ≤ most_cents }
     ensures { (k : ℕ) → k < length payments.old → get_or payments.new k 0 ≡ with_odd_cent remainders.now unpaid payments.old k }
 {
-    for i in 0..payments.len() {
-        payments[i] += u64::from(place(remainders, i) < unpaid);
+    for (i, payment) in payments.iter_mut().enumerate() {
+        *payment += u64::from(place(remainders, i) < unpaid);
     }
 }
 
@@ -75,6 +77,7 @@ fn pay_shares(fund: u64, sum: u64, wants: &[u64], payments: &mut [u64])
     requires { Short fund sum wants.now payments.old }
     ensures { payments.new ≡ list_below (payment fund wants.now) (length wants.now) }
 {
+    // A fixed buffer cut to the length of the wants, since there is no heap.
     let mut places = [0u64; OWNERS];
     let remainders = &mut places[..wants.len()];
     let unpaid = pay_whole_parts(fund, sum, wants, payments, remainders);

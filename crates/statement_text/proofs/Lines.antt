@@ -6,13 +6,15 @@ use mathlib.Core.List.{List, [], ◌∷◌, ◌++◌, append_assoc, append-nil}
 use native.Mathlib.Nat.{le_refl}
 use native.Mathlib.Numerals.{add-one}
 use native.Mathlib.Omega.{arith}
-use lib.ListN.{length, get_or, length-append}
+use lib.ListN.{length, get_or, take, length-append}
 use lib.IntN.{ℤ, pos, negsuc, nat_abs}
+use Rattle.std.specs.List.{flat_map}
+use Rattle.std.proofs.lemmas.List.{flat_map_more, take_more}
 use Rattle.std.specs.Fmt.{decimal, signed_decimal}
 use Rattle.numbers.specs.Limits.{owners}
-use Rattle.statement_text.specs.InnerContracts.{Put}
+use Rattle.statement_text.specs.InnerContracts.{Put, numbers_text}
 use Rattle.statement_text.specs.declared.lent.Text.{Text}
-use Rattle.statement_text.specs.Text.{blank, newline, signed_digits, field, signed_field, Line, owner_line, fund_line, refusal_line, line_text, text_of, owner_lines, lines_below, event_lines, line_room, event_room}
+use Rattle.statement_text.specs.Text.{blank, signed_digits, field, signed_field, Line, owner_line, fund_line, refusal_line, line_text, text_of, owner_lines, lines_below, event_lines, line_room, event_room}
 use Rattle.statement_text.proofs.Decimal.{printed_digits, printed_signed, digits_room, digits_half_room}
 use Rattle.statement_text.proofs.Pieces.{put_then, put_as}
 
@@ -22,26 +24,27 @@ pub put_field : {t u : Text} (n : ℕ) {m : ℕ} → Put (blank ∷ decimal m) t
 put_field n put same below =
     put_as (ap (λ (l : List ℕ). blank ∷ l) (ap decimal same ∙ sym (printed_digits n below))) put
 
-pub put_signed_field : {t u : Text} (z : ℤ) → nat_abs z ≤ 2 ^ 63 → Put (blank ∷ signed_decimal z) t u → Put (signed_field z) t u
-put_signed_field z few = put_as (ap (λ (l : List ℕ). blank ∷ l) (sym (printed_signed z few)))
+pub put_signed_field : {t u : Text} (z : ℤ) {y : ℤ} → Put (blank ∷ signed_decimal y) t u → y ≡ z → nat_abs z ≤ 2 ^ 63 → Put (signed_field z) t u
+put_signed_field z put same few =
+    put_as (ap (λ (l : List ℕ). blank ∷ l) (ap signed_decimal same ∙ sym (printed_signed z few))) put
 
--- ---- the lines
+-- ---- the lines of a letter and numbers
 
-pub put_line : (tag number owner : ℕ) (cents : ℤ) {t0 t1 t2 t3 t4 t5 : Text} → Put (tag ∷ []) t0 t1 → Put (field number) t1 t2
-    → Put (field owner) t2 t3 → Put (signed_field cents) t3 t4 → Put (newline ∷ []) t4 t5
-    → Put (line_text (owner_line tag number owner cents)) t0 t5
+-- one field more is put behind those before it
+pub put_number : (numbers : List ℕ) (i : ℕ) {t u v : Text} {m : ℕ} → Put (flat_map field (take i numbers)) t u → Put (blank ∷ decimal m) u v
+    → i < length numbers → m ≡ get_or numbers i 0 → get_or numbers i 0 < 2 ^ 64 → Put (flat_map field (take (i + 1) numbers)) t v
+put_number numbers i first second within is below =
+    put_as
+    (flat_map_more field [] (take i numbers) (get_or numbers i 0) ∙ ap (flat_map field) (sym (take_more numbers i 0 within)))
+    (put_then first (put_field (get_or numbers i 0) second is below))
+
+pub fund_numbers : (month year : ℕ) → numbers_text 70 (month ∷ year ∷ []) ≡ line_text (fund_line month year)
 unfolding line_text
-put_line tag number owner cents p1 p2 p3 p4 p5 = put_then (put_then (put_then (put_then p1 p2) p3) p4) p5
+fund_numbers month year = simp append-nil
 
-pub put_fund : (month year : ℕ) {t0 t1 t2 t3 t4 : Text} → Put (70 ∷ []) t0 t1 → Put (field month) t1 t2 → Put (field year) t2 t3
-    → Put (newline ∷ []) t3 t4 → Put (line_text (fund_line month year)) t0 t4
+pub refusal_numbers : (number : ℕ) → numbers_text 82 (number ∷ []) ≡ line_text (refusal_line number)
 unfolding line_text
-put_fund month year p1 p2 p3 p4 = put_then (put_then (put_then p1 p2) p3) p4
-
-pub put_refusal : (number : ℕ) {t0 t1 t2 t3 : Text} → Put (82 ∷ []) t0 t1 → Put (field number) t1 t2 → Put (newline ∷ []) t2 t3
-    → Put (line_text (refusal_line number)) t0 t3
-unfolding line_text
-put_refusal number p1 p2 p3 = put_then (put_then p1 p2) p3
+refusal_numbers number = simp append_assoc
 
 -- ---- texts of lines in a row
 

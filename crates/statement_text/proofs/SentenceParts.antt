@@ -2,17 +2,16 @@
 -- Assumes nothing.
 use Prim.Native.Nat.{ℕ, ◌≤◌, ◌<◌}
 use mathlib.Core.Path.{◌≡◌, sym, ap, ◌∙◌}
-use mathlib.Core.Bool.{Bool, true, false, cond}
 use mathlib.Core.List.{List, [], ◌∷◌, ◌++◌, append_assoc, map}
 use lib.Chars.{codes}
 use lib.ListN.{get_or, get_or-eq_default, get_or-map as get_or-mapped}
 use denote.Bor.{Bor}
 use borrow.Author.Tests.{ne_eqb}
 use Rattle.std.proofs.lemmas.List.{get_or-map}
-use Rattle.statement_text.specs.Text.{newline, field}
+use Rattle.statement_text.specs.Text.{newline}
 use Rattle.statement_text.specs.InnerContracts.{Put}
 use Rattle.statement_text.specs.declared.lent.Text.{Text}
-use Rattle.statement_text.specs.Sentence.{words, no_word, word_of, event_phrase, refusal_phrase, is_of_record, record_phrase, sentence}
+use Rattle.statement_text.specs.Sentence.{words, no_word, word_of, event_phrase, refusal_phrase, record_phrase, sentence}
 use Rattle.statement_text.proofs.Pieces.{put_then, put_as}
 
 -- ---- the refusal's word
@@ -36,24 +35,9 @@ pub other_event : (tag number : ℕ) → (tag ≡ 72 → ⊥) → (tag ≡ 77 �
 unfolding event_phrase
 other_event tag number hour month year = simp (ne_eqb tag 72 hour, ne_eqb tag 77 month, ne_eqb tag 89 year)
 
--- ---- the record
-
-module _ (refusal faulty : ℕ) where
-  pub with_record : is_of_record refusal ≡ true → codes ", record" ++ field faulty ≡ record_phrase refusal faulty
-  unfolding record_phrase
-  with_record is = sym (ap (λ (t : Bool). cond t (codes ", record" ++ field faulty) []) is)
-
-  pub without_record : is_of_record refusal ≡ false → [] ≡ record_phrase refusal faulty
-  unfolding record_phrase
-  without_record is = sym (ap (λ (t : Bool). cond t (codes ", record" ++ field faulty) []) is)
-
 -- ---- the sentence
 
 module _ (tag number refusal faulty : ℕ) where
-  pub no_sentence : refusal ≡ 0 → [] ≡ sentence tag number refusal faulty
-  unfolding sentence
-  no_sentence e = sym (ap (λ (n : ℕ). sentence tag number n faulty) e)
-
   pub put_sentence : {t0 t1 t2 t3 t4 : Text} → (refusal ≡ 0 → ⊥) → Put (event_phrase tag number) t0 t1
       → Put (refusal_phrase refusal) t1 t2 → Put (record_phrase refusal faulty) t2 t3 → Put (46 ∷ newline ∷ []) t3 t4
       → Put (sentence tag number refusal faulty) t0 t4

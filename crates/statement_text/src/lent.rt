@@ -5,7 +5,10 @@ ghost use Rattle.statement_text.specs.Text.{blank};
 
 use itoa::{Buffer, Integer};
 
-// The buffer, and where the text written so far ends.
+// The buffer, and where the text written so far ends. Who opens one asks for its room and makes it in two steps. Tried in one, by a
+// function that gives a text or none: no proof learns what a lent slice ends as behind a reference in an `Option` or a `Result`. An opening
+// that is given what to write would need clauses on what that keeps, and is no plainer. Each piece asks for a room of its own, so that no
+// field can hold that there is room.
 #[derive(Drop)]
 pub(crate) struct Text<'a> {
     pub(crate) bytes: &'a mut [u8],

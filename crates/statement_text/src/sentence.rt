@@ -27,7 +27,8 @@ const WORDS: [&str; 12] = [
 ];
 
 // One sentence on a refusal, behind a place of the buffer: the event and its number, the refusal's number and word, and in 7 and 8
-// the record. Nothing for refusal 0. The C library exports it with these parameters; its parts below take two of them at most.
+// the record. Nothing for refusal 0. The C library exports it with these parameters, and promises a sentence for any; its parts below
+// take two of them at most, as the numbers that they are.
 pub fn write_sentence(
     tag: u8,
     number: u64,
@@ -56,7 +57,7 @@ pub fn write_sentence(
     out.end
 }
 
-// The event and its number.
+// The event and its number. A match on the letter: what is written are words, so that a table of functions would be no plainer.
 fn write_named(tag: u8, number: u64, out: &mut Text)
     requires { out.old.end + event_phrase_room ≤ length out.old.bytes.now }
     ensures put { Put (event_phrase tag number) out.old out.new }
@@ -86,17 +87,17 @@ fn write_told(refusal: u8, out: &mut Text)
     ensures put { Put (refusal_phrase refusal) out.old out.new }
     ensures short { out.new.end ≤ out.old.end + refusal_phrase_room }
 {
-    write_numbered(b" is refused:", refusal as u64, out);
+    write_numbered(b" is refused:", u64::from(refusal), out);
     out.put(b", ");
     out.put(word_of(refusal).as_bytes());
 }
 
-// The refusal's word from the table. Not by `get`: a proof cannot name the table that its result comes from.
+// The refusal's word from the table. Tried by `get`: a proof cannot name the table that its result comes from.
 fn word_of(refusal: u8) -> &'static str
     ensures value { result.now ≡ word_of refusal }
     ensures short { length result.now ≤ word_room }
 {
-    let place = refusal as usize;
+    let place = usize::from(refusal);
     if place < WORDS.len() {
         return WORDS[place];
     }

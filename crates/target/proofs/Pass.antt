@@ -22,7 +22,7 @@ use Rattle.calendar.specs.declared.OperatingHour.{OperatingHour}
 use Rattle.rights.specs.declared.Right.{Right}
 use Rattle.rights.specs.Layout.{record_count, right_at, is_good, is_wrong_length}
 use Rattle.rights.specs.Faults.{fault_at, any_fault, is_unpriced}
-use Rattle.rights.proofs.Faults.{file_0, file_rows, some_faults, fault_7, fault_8, any_fault_here, no_fault_to}
+use Rattle.rights.proofs.Faults.{clear_length, file_0, file_rows, some_faults, fault_7, fault_8, any_fault_here, no_fault_to}
 use Rattle.rights.proofs.Good.{good_owner_lem}
 use Rattle.target.specs.Target.{any_wild, row_cents, row_at, own_row, own_sum}
 use Rattle.target.specs.InnerContracts.{added}
@@ -116,27 +116,30 @@ module _ (file : List ℕ) (prices : List ℤ) (hour : OperatingHour) where
           small = small_more no_wild fine;
         }
 
-  -- what the pass gives, of a file that has the right length
+  -- what the pass gives
+  stops : (any_fault (length prices) file 7 || any_fault (length prices) file 8) ≡ true → None ≡ added file prices hour
+  stops either =
+      sym
+      (answer_refused _ _ None (λ none.
+      some_faults (length prices) file either (sym (file_rows (length prices) file (clear_length (length prices) file none)) ∙ none)))
+
+  -- at a record with a fault
+  pub stops_bad : (number : ℕ) → number < record_count file → is_good (right_at file number) ≡ false → None ≡ added file prices hour
+  stops_bad number inside bad =
+      stops
+      (ap (λ (b : Bool). b || any_fault (length prices) file 8)
+      (any_fault_here (length prices) file 7 number inside (fault_7 (length prices) file number ∙ ap not bad)))
+
+  pub stops_unpriced : (number : ℕ) → number < record_count file → is_unpriced (length prices) (right_at file number) ≡ true
+      → None ≡ added file prices hour
+  stops_unpriced number inside unpriced =
+      stops
+      (ap (λ (b : Bool). any_fault (length prices) file 7 || b)
+      (any_fault_here (length prices) file 8 number inside (fault_8 (length prices) file number ∙ unpriced))
+      ∙ or-true (any_fault (length prices) file 7))
+
+  -- of a file that has the right length
   module _ (right_length : is_wrong_length (length file) ≡ false) where
-    stops : (any_fault (length prices) file 7 || any_fault (length prices) file 8) ≡ true → None ≡ added file prices hour
-    stops either =
-        sym (answer_refused _ _ None (λ none. some_faults (length prices) file either (sym (file_rows (length prices) file right_length) ∙ none)))
-
-    -- at a record with a fault
-    pub stops_bad : (number : ℕ) → number < record_count file → is_good (right_at file number) ≡ false → None ≡ added file prices hour
-    stops_bad number inside bad =
-        stops
-        (ap (λ (b : Bool). b || any_fault (length prices) file 8)
-        (any_fault_here (length prices) file 7 number inside (fault_7 (length prices) file number ∙ ap not bad)))
-
-    pub stops_unpriced : (number : ℕ) → number < record_count file → is_unpriced (length prices) (right_at file number) ≡ true
-        → None ≡ added file prices hour
-    stops_unpriced number inside unpriced =
-        stops
-        (ap (λ (b : Bool). any_fault (length prices) file 7 || b)
-        (any_fault_here (length prices) file 8 number inside (fault_8 (length prices) file number ∙ unpriced))
-        ∙ or-true (any_fault (length prices) file 7))
-
     -- past every record
     pub ends : (sums : List ℤ) (number : ℕ) → Passed sums number → number ≡ record_count file → Some sums ≡ added file prices hour
     unfolding own_sum

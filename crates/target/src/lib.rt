@@ -13,6 +13,7 @@ ghost use Rattle.target.specs.Target.{any_wild, call_answer, early_rows, is_wild
 use calendar::OperatingHour;
 use numbers::{OWNERS, Refusal};
 use priced_right::PricedRight;
+use rights::Reader;
 
 mod priced_right;
 mod right_rows;
@@ -42,7 +43,8 @@ pub fn targets(rights: &[u8], prices: &[i32], hour: u64, lines: &mut [i64]) -> R
     Ok(())
 }
 
-// The hour, or what the hour, the lengths and the prices call for: 3, 4 or 5. `wrong` is whether the lines are not as many as the call writes.
+// The hour, or what the hour, the lengths and the prices call for: 3, 4 or 5. `wrong` is whether the lines are not as many as the call writes, the
+// one test that the two calls differ in. Rights, prices and hour are what the calls are given: a struct made for each call is no plainer.
 fn looked_at(
     rights: &[u8],
     prices: &[i32],
@@ -73,8 +75,8 @@ fn add_rights(rights: &[u8], prices: &[i32], hour: OperatingHour) -> Option<[i64
     ensures { result ≡ added rights.now prices.now hour }
 {
     let mut sums = [0i64; OWNERS];
-    for number in 0..rights.len() / rights::RECORD_BYTES {
-        let Ok(right) = rights::read(rights, number as u64) else {
+    for given in Reader::new(rights) {
+        let Ok(right) = given else {
             return None;
         };
         // A good right's nodes are below 1,024: with as many prices none is missing.

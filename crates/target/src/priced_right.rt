@@ -21,14 +21,14 @@ pub(crate) struct PricedRight<'a> {
 }
 
 impl<'a> PricedRight<'a> {
-    // Adds the right's cents to its owner's sum; one that is not live leaves the sums as they are.
+    // Adds the right's cents to its owner's sum; one that is not live leaves the sums as they are. Not by `row_cents`: to add 0 takes longer.
     #[tactic(auto, using(crate::proofs::Cents::row_live))]
     pub(crate) fn add_to(&self, sums: &mut [i64; OWNERS], hour: OperatingHour)
         requires { nat_abs (get_or sums.old self.now.right.owner (pos 0)) + nat_abs (row_cents self.now.prices.now hour self.now.right) < 2 ^ 63 }
         ensures { sums.new ≡ set sums.old self.now.right.owner (get_or sums.old self.now.right.owner (pos 0) +ℤ row_cents self.now.prices.now hour self.now.right) }
     {
         if rights::is_live(self.right, hour) {
-            sums[self.right.owner as usize] += self.live_cents();
+            sums[usize::from(self.right.owner)] += self.live_cents();
         }
     }
 
@@ -56,21 +56,22 @@ impl<'a> PricedRight<'a> {
     fn tenths(&self) -> i64
         ensures { result ≡ tenths self.now.prices.now self.now.right }
     {
-        let sink = self.prices[self.right.sink as usize];
-        let source = self.prices[self.right.source as usize];
-        let gain = counted_gain(self.right.kind, i64::from(sink) - i64::from(source));
+        let sink = self.prices[usize::from(self.right.sink)];
+        let source = self.prices[usize::from(self.right.source)];
+        let gain = self.counted(i64::from(sink) - i64::from(source));
         i64::from(self.right.size) * gain
     }
-}
 
-// An option's negative spread counts as 0.
-fn counted_gain(kind: u8, gain: i64) -> i64
-    ensures { result ≡ counted kind gain }
-{
-    if kind == Kind::Option as u8 {
-        gain.max(0)
-    } else {
-        gain
+    // The spread, but 0 for an option's negative one. The kind is asked for as a byte, since one that is made a `Kind` would be made so for
+    // this question alone.
+    fn counted(&self, gain: i64) -> i64
+        ensures { result ≡ counted self.now.right.kind gain }
+    {
+        if self.right.kind == Kind::Option as u8 {
+            gain.max(0)
+        } else {
+            gain
+        }
     }
 }
 

@@ -23,13 +23,14 @@ pub fn rows(rights: &[u8], prices: &[i32], hour: u64, lines: &mut [i64]) -> Resu
     Ok(())
 }
 
-// Writes the row of each record of a file without a fault.
+// Writes the row of each record of a file without a fault, by the record's number, which is the place of its line too; by `as`, since there is
+// no `From` from an index to 64 bits.
 fn write_rows(rights: &[u8], prices: &[i32], hour: OperatingHour, lines: &mut [i64])
     requires { (file_refusal (length prices.now) rights.now ≡ 0) × (any_wild prices.now ≡ false) × (length lines.old ≡ record_count rights.now) }
     ensures { lines.new ≡ list_below (row_at rights.now prices.now hour) (record_count rights.now) }
 {
-    for number in 0..lines.len() {
+    for (number, line) in lines.iter_mut().enumerate() {
         let right = rights::read(rights, number as u64).unwrap();
-        lines[number] = PricedRight { right, prices }.row_cents(hour);
+        *line = PricedRight { right, prices }.row_cents(hour);
     }
 }

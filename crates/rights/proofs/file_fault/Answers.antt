@@ -7,6 +7,7 @@ use Rattle.rights.specs.declared.Right.{Right}
 use Rattle.rights.specs.Layout.{record_count, right_at, is_good}
 use Rattle.rights.specs.Faults.{fault_at, is_unpriced}
 use Rattle.rights.proofs.Faults.{fault_7, fault_8, wrong_answer, bad_answer, unpriced_answer, clear_answer}
+use Rattle.rights.proofs.RecordWords.{cut_right}
 use Rattle.rights.proofs.file_fault.Goals as goal
 
 -- what the tests say of a record's words is what the definitions say of the file's record
@@ -28,17 +29,17 @@ returns-then-not-is_good c =
     bad_answer _ _ (sym c.wrong_length.ensures ∙ c.if-wrong_length.false) _
     (record {
       inside = omega arith;
-      here = good_here _ _ _ c.words_at-words.ensures.fields c.is_good.ensures c.if-not-is_good.true;
+      here = good_here _ _ _ (cut_right _ _ (omega arith) c.as_chunks.ensures.front c.from_le_bytes-words.ensures.fields) c.is_good.ensures c.if-not-is_good.true;
       before = c.loop-number.invariant.good;
     })
 
 pub loop-number-preserved : goal.loop-number-preserved
 loop-number-preserved c = record {
   good = any_more _ _ c.loop-number.invariant.good
-      (good_here _ _ _ c.words_at-words.ensures.fields c.is_good.ensures c.if-not-is_good.false);
+      (good_here _ _ _ (cut_right _ _ (omega arith) c.as_chunks.ensures.front c.from_le_bytes-words.ensures.fields) c.is_good.ensures c.if-not-is_good.false);
   first = rw (c.or-unpriced.ensures, c.then_some-here.ensures)
       (first_next _ _ _ _ c.loop-number.invariant.first
-      (unpriced_here _ _ _ (c.cut.ensures ∙ c.words_at-words.ensures.fields) c.is_unpriced.ensures));
+      (unpriced_here _ _ _ (c.cut.ensures ∙ cut_right _ _ (omega arith) c.as_chunks.ensures.front c.from_le_bytes-words.ensures.fields) c.is_unpriced.ensures));
 }
 
 -- where the loop has ended, no record is left

@@ -1,6 +1,5 @@
 -- An event's lines, if there is room.
-use Rattle.std.proofs.Common.{◌+◌, ◌≤◌, ◌<◌, rules, length, sym, ◌∙◌, arith}
-use borrow.Author.Tests.{leb-true, leb-false}
+use Rattle.std.proofs.Common.{rules, length, arith}
 use Rattle.statement_text.specs.Text.{text_of, event_lines, event_room}
 use Rattle.statement_text.proofs.Room.{with_room, without_room}
 use Rattle.statement_text.proofs.write_event.Goals as goal
@@ -8,16 +7,12 @@ use Rattle.statement_text.proofs.write_event.Goals as goal
 pub returns-then-not-has_room : goal.returns-then-not-has_room
 returns-then-not-has_room c =
     let lines = c.args.lines.now in
-    let least = leb-false _ _ (sym c.has_room.ensures ∙ c.if-not-has_room.true) in
-    let short : length c.args.text.now < c.args.at + event_room (length lines) = omega arith in
-    let is = without_room (event_room (length lines)) (text_of (event_lines c.args.tag c.args.number lines)) c.args.text.now c.args.at short in
+    let is = without_room (event_room (length lines)) (text_of (event_lines c.args.tag c.args.number lines)) c.args.text.now c.args.at (search rules) in
     record { value = is.0; text_after = is.1; upper_bound = omega arith }
 
 pub returns : goal.returns
 returns c =
-    let most = leb-true _ _ (sym c.has_room.ensures ∙ c.if-not-has_room.false) in
-    let room : c.args.at + event_room (length c.args.lines.now) ≤ length c.args.text.now = omega arith in
-    let is = with_room (event_room (length c.args.lines.now)) _ _ _ _ _ room c.write_lines.ensures.put.wrote in
+    let is = with_room (event_room (length c.args.lines.now)) _ _ _ _ _ (search rules) c.write_lines.ensures.put.wrote in
     record {
       value = is.0;
       text_after = search (rules, c.write_lines.ensures.put.same_buffer, is.1);

@@ -1,7 +1,7 @@
 -- Refused by the rows of every event, by its input or by its size, or settled.
-use Rattle.std.proofs.Common.{arith}
+use Rattle.std.proofs.Common.{rules, sym, ◌∙◌, arith}
 use Rattle.std.proofs.lemmas.Result.{err_from_is_err_and}
-use Rattle.settlement.proofs.Settling.{begun, aimed, dealt, refused_early, refused_input, refused_size, may_share, may_write, has_room, settled_hour}
+use Rattle.settlement.proofs.Settling.{begun, aimed, dealt, refused_early, refused_input, refused_size, may_share, payments_small, has_room, settled_hour}
 use Rattle.settlement.proofs.Book.settle_hour.Goals as goal
 
 pub returns-in_err-of_event : goal.returns-in_err-of_event
@@ -30,11 +30,15 @@ returns-in_err-shares c =
     let aim = aimed _ _ _ _ _ start c.ranges.collected c.hour_targets.ensures c.in_ok-targets.was c.positive_part.ensures in
     rw (p.1, p.2) (refused_size aim c.share_out.ensures c.in_err-shares.was)
 
-pub write_hour-requires : goal.write_hour-requires
-write_hour-requires c =
+pub of_hour-requires : goal.of_hour-requires
+of_hour-requires c =
     let start = begun _ _ c.of_event.ensures c.in_ok-of_event.was in
     let aim = aimed _ _ _ _ _ start c.ranges.collected c.hour_targets.ensures c.in_ok-targets.was c.positive_part.ensures in
-    may_write (dealt aim c.share_out.ensures c.in_ok-shares.was)
+    payments_small (dealt aim c.share_out.ensures c.in_ok-shares.was)
+
+pub copy_from_slice-requires : goal.copy_from_slice-requires
+copy_from_slice-requires c =
+    (begun _ _ c.of_event.ensures c.in_ok-of_event.was).long ∙ sym (search rules)
 
 pub after_hour-requires : goal.after_hour-requires
 after_hour-requires c =
@@ -47,4 +51,4 @@ pub returns : goal.returns
 returns c =
     let start = begun _ _ c.of_event.ensures c.in_ok-of_event.was in
     let aim = aimed _ _ _ _ _ start c.ranges.collected c.hour_targets.ensures c.in_ok-targets.was c.positive_part.ensures in
-    settled_hour (dealt aim c.share_out.ensures c.in_ok-shares.was) c.write_hour.ensures c.after_hour.ensures
+    settled_hour (dealt aim c.share_out.ensures c.in_ok-shares.was) (c.copy_from_slice.ensures.after ∙ c.of_hour.ensures) c.after_hour.ensures

@@ -1,5 +1,5 @@
 -- Refused by the wants, the charges or the carry, or shared.
-use Rattle.std.proofs.Common.{ℕ, ◌≤◌, ◌≡◌, List, length, ap, ◌∙◌, ℤ, Ok, arith}
+use Rattle.std.proofs.Common.{ℕ, ◌≤◌, ◌≡◌, List, length, sym, ap, ◌∙◌, ℤ, Ok, ltb, arith}
 use Rattle.numbers.specs.Limits.{most_cents}
 use Rattle.numbers.specs.Lists.{total}
 use Rattle.numbers.proofs.Counts.{get_or_le_total}
@@ -35,12 +35,12 @@ added-monthshort-requires c =
     let few = unpaid_few c.args.targets.now c.wants_of-wants.ensures c.pay-paid.ensures (omega arith) in
     λ i. omega (arith, get_or_le_total c.args.book.now.monthshort i, get_or_le_total c.pay-paid.result.unpaid i, few, c.requires.0)
 
-pub returns-then-capped_total-cap-2 : goal.returns-then-capped_total-cap-2
-returns-then-capped_total-cap-2 c =
+pub returns-then-is_carry_full : goal.returns-then-is_carry_full
+returns-then-is_carry_full c =
     let wanted = ap total c.wants_of-wants.ensures in
     let charges : c.charges_of-charges.result ≡ hour_charges c.args.targets.now = omega arith in
     let carry = carried c.args.book.now c.args.collected c.args.targets.now c.wants_of-wants.ensures charges c.pay-paid.ensures c.added-monthshort.ensures in
-    shared _ _ _ 10 (carry_over _ _ _ _ (omega arith) (omega arith) (omega arith))
+    shared _ _ _ 10 (carry_over _ _ _ _ (omega arith) (omega arith) (ap (ltb most_cents) (sym carry) ∙ sym c.is_carry_full.ensures ∙ c.if-is_carry_full.true))
 
 pub returns : goal.returns
 returns c =
@@ -48,4 +48,4 @@ returns c =
     let charges : c.charges_of-charges.result ≡ hour_charges c.args.targets.now = omega arith in
     let carry = carried c.args.book.now c.args.collected c.args.targets.now c.wants_of-wants.ensures charges c.pay-paid.ensures c.added-monthshort.ensures in
     ap Ok (shares_are c.args.book.now _ _ c.wants_of-wants.ensures charges c.pay-paid.ensures c.added-monthshort.ensures)
-    ∙ shared _ _ _ 0 (all_within _ _ _ _ (omega arith) (omega arith) (omega arith))
+    ∙ shared _ _ _ 0 (all_within _ _ _ _ (omega arith) (omega arith) (ap (ltb most_cents) (sym carry) ∙ sym c.is_carry_full.ensures ∙ c.if-is_carry_full.false))

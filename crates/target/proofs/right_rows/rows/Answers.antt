@@ -38,6 +38,8 @@ returns-in_err-file_fault-clause-lines_after c =
     let refused = answered_refusal _ _ (tt {0}) (tt {0}) _ (sym c.in_err-file_fault.ensures) in
     sym (keeps_row_lines _ _ _ _ (λ none. refused.0 (called ∙ none)))
 
+-- a file without a fault: what is lent to the pass is right,
+-- and the rows that it writes are those of the call
 pub write_rows-requires : goal.write_rows-requires
 write_rows-requires c =
     let lent = early_clear _ _ _ _ (answered_ok _ _ _ (sym c.in_ok-hour.ensures)).0 in

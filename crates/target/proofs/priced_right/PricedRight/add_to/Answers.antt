@@ -10,7 +10,7 @@ pub returns-then-is_live : goal.returns-then-is_live
 returns-then-is_live c =
     let s = c.args.self.now in
     let live = row_live s.prices.now c.args.hour s.right (sym c.is_live.ensures ∙ c.if-is_live.true) in
-    ap (set c.args.sums.now s.right.owner) (omega (arith, ints, live, c.requires))
+    rw c.from.ensures (ap (set c.args.sums.now s.right.owner) (omega (arith, ints, live, c.requires)))
 
 pub returns-else-is_live : goal.returns-else-is_live
 returns-else-is_live c =

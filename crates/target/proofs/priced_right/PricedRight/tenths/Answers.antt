@@ -8,11 +8,11 @@ use Rattle.target.proofs.priced_right.PricedRight.tenths.Goals as goal
 pub overflow_mul-result : goal.overflow_mul-result
 overflow_mul-result c =
     let s = c.args.self.now in
-    let gain : c.counted_gain-gain.result ≡ counted s.right.kind (spread s.prices.now s.right) = grind (arith, to_z-of_z) in
+    let gain : c.counted-gain.result ≡ counted s.right.kind (spread s.prices.now s.right) = grind (arith, to_z-of_z) in
     grind (arith, to_z-of_z, gain, tenths_most s.prices.now s.tame s.right s.good)
 
 pub returns : goal.returns
 returns c =
     let s = c.args.self.now in
-    let gain : c.counted_gain-gain.result ≡ counted s.right.kind (spread s.prices.now s.right) = grind (arith, to_z-of_z) in
+    let gain : c.counted-gain.result ≡ counted s.right.kind (spread s.prices.now s.right) = grind (arith, to_z-of_z) in
     grind (arith, to_z-of_z, gain, tenths_most s.prices.now s.tame s.right s.good)
