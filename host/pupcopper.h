@@ -72,9 +72,37 @@ uint8_t pupcopper_targets(const uint8_t *rights, size_t rights_bytes, const int3
 uint8_t pupcopper_rows(const uint8_t *rights, size_t rights_bytes, const int32_t *prices, size_t prices_count, uint64_t hour,
                        int64_t *lines, size_t lines_count, uint64_t *report, size_t report_words);
 
-/* The proportional split of a fund over up to 64 wants. Writes as many payments. */
-uint8_t pupcopper_split(uint64_t fund, const uint64_t *wants, size_t wants_count, uint64_t *payments, size_t payments_count,
-                        uint64_t *report, size_t report_words);
+/* The proportional split of a fund over wants, within the limits of the caller's pool: at most `owners` wants, which come to at most
+   `total` cents. `owners` is 1 to 64 and `total` 1 to 4,000,000,000; the hall's own limits are 64 and 4,000,000,000. The wants are any
+   64-bit numbers: their true sum decides, also where it passes 64 bits. Writes as many payments. The first of these that applies is the
+   refusal:
+
+   4   there are not as many payments as wants, there are more than 64 wants, or a limit is outside its range;
+   16  there are more wants than `owners`;
+   11  the wants come to more than 4,000,000,000;
+   17  they come to more than `total`, but not to more than 4,000,000,000.
+
+   A municipal pool of at most 16 owners, with a total of at most 100,000,000 cents:
+
+       #include "pupcopper.h"
+       #include <inttypes.h>
+       #include <stdio.h>
+
+       int main(void) {
+           uint64_t wants[17] = {50, 50, 50}, paid[17] = {0}, left[PUPCOPPER_ALLOCATION];
+           int refusal = pupcopper_split(16, 100000000, 100, wants, 3, paid, 3, left, PUPCOPPER_ALLOCATION);
+           printf("%d: %" PRIu64 " %" PRIu64 " %" PRIu64 ", left %" PRIu64, refusal, paid[0], paid[1], paid[2], left[0]);
+           refusal = pupcopper_split(16, 100000000, 100, wants, 17, paid, 17, left, PUPCOPPER_ALLOCATION);
+           printf("; 17 wants: %d", refusal);
+           wants[0] = 100000001 - wants[1] - wants[2];
+           refusal = pupcopper_split(16, 100000000, 100, wants, 3, paid, 3, left, PUPCOPPER_ALLOCATION);
+           printf("; 100000001 cents wanted: %d\n", refusal);
+           return 0;
+       }
+
+   It prints `0: 34 33 33, left 0; 17 wants: 16; 100000001 cents wanted: 17`. */
+uint8_t pupcopper_split(size_t owners, uint64_t total, uint64_t fund, const uint64_t *wants, size_t wants_count, uint64_t *payments,
+                        size_t payments_count, uint64_t *report, size_t report_words);
 
 /* A book crosses as three slices, which the host keeps from call to call. In an event a mark that is neither 0 nor 1, or a surplus
    below 0, is a spoiled book, 1. */

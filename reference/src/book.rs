@@ -6,7 +6,7 @@ use crate::refusal::{
     UNPRICED_NODE, WILD_AMOUNT, WILD_PRICE, WRONG_LENGTH, YEAR_OVER,
 };
 use crate::rights::{first_bad, first_unpriced, records};
-use crate::split::{left, payments, sum};
+use crate::split::{split, sum, HALL};
 use crate::target::{faulty_record, has_wild_price, has_wrong_length, owner_targets, OWNERS};
 
 /// "all shortfalls together above 4,000,000,000".
@@ -61,18 +61,17 @@ fn narrow(number: u128) -> u64 {
     u64::try_from(number).unwrap_or(u64::MAX)
 }
 
-/// Runs the split; the refusals before it keep the wants within its limit.
+/// Runs the split within the hall's limits, which the refusals before it keep the
+/// wants to.
 fn settle(fund: u64, wants: [u64; OWNERS]) -> Settled {
     let mut paid = [0; OWNERS];
-    for (cell, payment) in paid.iter_mut().zip(payments(fund, &wants)) {
-        *cell = payment;
-    }
-    let left = left(fund, &wants);
+    let result = split(HALL, fund, &wants, &mut paid);
+    assert_eq!(result.refusal, ACCEPTED, "an event's split is refused");
     Settled {
         fund,
         wants,
         paid,
-        left,
+        left: result.left,
     }
 }
 

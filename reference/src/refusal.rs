@@ -1,4 +1,5 @@
-//! The refusal numbers. "Where several apply, the lowest number comes."
+//! The refusal numbers. "Where several apply, the lowest number comes"; in a split,
+//! where a wish puts 16 "right after 4", the first one.
 
 pub const ACCEPTED: u64 = 0;
 pub const SPOILED_BOOK: u64 = 1;
@@ -12,15 +13,23 @@ pub const UNPRICED_NODE: u64 = 8;
 pub const HOUR_TOO_LARGE: u64 = 9;
 pub const CARRY_FULL: u64 = 10;
 pub const WANT_TOO_LARGE: u64 = 11;
+pub const TOO_MANY_WANTS: u64 = 16;
+pub const TOTAL_TOO_LARGE: u64 = 17;
+
+/// The numbers of those that apply, in the order of the cases.
+fn applying(cases: &[(u64, bool)]) -> impl Iterator<Item = u64> + '_ {
+    let those = cases.iter().filter(|(_, applies)| *applies);
+    those.map(|(number, _)| *number)
+}
 
 /// The lowest number of those that apply; `ACCEPTED` if none does.
 pub fn lowest(cases: &[(u64, bool)]) -> u64 {
-    cases
-        .iter()
-        .filter(|(_, applies)| *applies)
-        .map(|(number, _)| *number)
-        .min()
-        .unwrap_or(ACCEPTED)
+    applying(cases).min().unwrap_or(ACCEPTED)
+}
+
+/// The first number of those that apply; `ACCEPTED` if none does.
+pub fn first(cases: &[(u64, bool)]) -> u64 {
+    applying(cases).next().unwrap_or(ACCEPTED)
 }
 
 /// The word of the table.
@@ -37,6 +46,30 @@ pub fn word(refusal: u64) -> &'static str {
         HOUR_TOO_LARGE => "hour too large",
         CARRY_FULL => "carry full",
         WANT_TOO_LARGE => "want too large",
+        TOO_MANY_WANTS => "too many wants",
+        TOTAL_TOO_LARGE => "total too large",
         _ => "not in the table",
+    }
+}
+
+#[cfg(test)]
+mod tests {
+    use super::*;
+
+    #[test]
+    fn the_lowest_and_the_first() {
+        let cases = [(4, false), (16, true), (11, true), (17, true)];
+        assert_eq!((lowest(&cases), first(&cases)), (11, 16));
+        assert_eq!((lowest(&cases[..1]), first(&cases[..1])), (0, 0));
+        assert_eq!((lowest(&[]), first(&[])), (0, 0));
+    }
+
+    /// 12 to 15 and 18 have none yet.
+    #[test]
+    fn words_of_the_table() {
+        let words = [11, 12, 15, 16, 17, 18].map(word);
+        let none = "not in the table";
+        let [many, large] = ["too many wants", "total too large"];
+        assert_eq!(words, ["want too large", none, none, many, large, none]);
     }
 }

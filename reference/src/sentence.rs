@@ -78,6 +78,10 @@ mod tests {
         assert_eq!(file, "Rights file is refused: 4, wrong length.\n");
         let other = sentence(72, 0, 12, 5);
         assert_eq!(other, "Hour 0 is refused: 12, not in the table.\n");
+        let many = sentence(72, 0, 16, 5);
+        assert_eq!(many, "Hour 0 is refused: 16, too many wants.\n");
+        let large = sentence(77, 3, 17, 5);
+        assert_eq!(large, "Month end 3 is refused: 17, total too large.\n");
         assert_eq!(sentence(72, 17, 0, 3), "");
     }
 }

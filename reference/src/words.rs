@@ -6,7 +6,7 @@ use crate::calendar::place;
 use crate::refusal::{ACCEPTED, SPOILED_BOOK, WRONG_LENGTH};
 use crate::rights::{self, Given, Reader, Right};
 use crate::sentence::Stopped;
-use crate::split;
+use crate::split::{self, Limits};
 use crate::step::{last_line, step};
 use crate::target;
 
@@ -337,11 +337,17 @@ pub fn rows(file: &[u8], prices: &[i32], hour: u64, lines: &mut [i64], report: &
     })
 }
 
-/// "The proportional split of a fund over up to 64 wants. Writes as many
-/// payments."
-pub fn split(fund: u64, wants: &[u64], payments: &mut [u64], report: &mut [u64]) -> u64 {
+/// "The proportional split of a fund over wants, within the limits of the caller's
+/// pool .. Writes as many payments."
+pub fn split(
+    limits: Limits,
+    fund: u64,
+    wants: &[u64],
+    payments: &mut [u64],
+    report: &mut [u64],
+) -> u64 {
     reported::<ALLOCATION>(report, || {
-        let result = split::split(fund, wants, payments);
+        let result = split::split(limits, fund, wants, payments);
         (result.refusal, [result.left])
     })
 }
@@ -468,6 +474,24 @@ mod tests {
         assert_eq!((lines, report), ([7], [9; 2]));
         assert_eq!(rows(&file, &[0, 1], 0, &mut lines, &mut report[..1]), 0);
         assert_eq!((lines, report), ([1], [0, 9]));
+    }
+
+    #[test]
+    fn a_report_of_another_number_comes_before_the_limits() {
+        let (mut paid, mut report) = ([7; 3], [9; 2]);
+        let mut refusal = |owners, report: &mut [u64]| {
+            let limits = Limits {
+                owners,
+                ..split::SMALL_POOL
+            };
+            split(limits, 100, &[50; 3], &mut paid, report)
+        };
+        assert_eq!([refusal(2, &mut report), refusal(3, &mut [])], [4; 2]);
+        assert_eq!(report, [9; 2]);
+        assert_eq!((refusal(2, &mut report[..1]), report), (16, [0, 9]));
+        report = [9; 2];
+        assert_eq!((refusal(3, &mut report[..1]), report), (0, [0, 9]));
+        assert_eq!(paid, [34, 33, 33]);
     }
 
     fn behind_two(bytes: &mut [u8]) -> LentText<'_> {

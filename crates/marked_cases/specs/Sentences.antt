@@ -1,11 +1,15 @@
--- Three sentences of the papers on the rights file, each shown of the rules themselves on a file that is written out.
+-- Sentences of the papers, each shown of the rules themselves: three on the rights file, on a file that is written out, and those on the
+-- limits of two pools, on wants that are written out.
 -- Assumes nothing.
-use Rattle.std.specs.Prelude.{ℕ, ◌≡◌, refl, List, [], ◌++◌, ℤ, pos}
-use Rattle.numbers.specs.Lists.{any_below, lowest_below, sum_below}
+use Rattle.std.specs.Prelude.{ℕ, ◌≡◌, refl, List, [], ◌∷◌, ◌++◌, length, replicate, ℤ, pos}
+use Rattle.numbers.specs.Lists.{total, any_below, lowest_below, sum_below}
 use Rattle.numbers.specs.Refusals.{first_refusal}
 use Rattle.calendar.specs.Year.{ended_by, month_of, is_among, is_working, is_peak, calendar_refusal, operating_hour}
 use Rattle.rights.specs.Layout.{record_count}
 use Rattle.rights.specs.Faults.{fault_at, any_fault, fault_rows, file_refusal, faulty_record}
+use Rattle.split.specs.declared.Limits.{Limits}
+use Rattle.split.specs.Split.{limits_of, split_refusal}
+use Rattle.settlement.specs.Events.{hall}
 use Rattle.target.specs.Rounding.{round_tenths}
 use Rattle.target.specs.Target.{live_cents, row_cents, own_row, own_sum, target}
 use Rattle.marked_cases.specs.WrittenOut.{right_to, prices_at}
@@ -43,3 +47,48 @@ pub first_bad_named : (file_refusal 2 (one_right ++ unpriced_right) ≡ 8)
     × (faulty_record 2 (one_right ++ unpriced_right ++ bad_right ++ bad_right) 7 ≡ 2)))
 unfolding right_to one_right unpriced_right bad_right file_refusal fault_rows any_fault any_below fault_at first_refusal faulty_record lowest_below
 first_bad_named = (refl, (refl, (refl, refl)))
+
+-- the number that a split call gives a caller of these limits, with a payment lent for each want
+unfoldable pub called : Limits → List ℕ → ℕ
+called limits wants = split_refusal limits wants (length wants)
+
+-- "A municipal pool of at most 16 owners, with a total of at most 100,000,000 cents" (Wish 8)
+abbrev pub municipal : Limits
+municipal = limits_of 16 100_000_000
+
+-- 16 wants, one more than 16, one more than 64; and one want of the pool's total, of a cent more, of the hall's, of a cent more than that
+pub of_the_municipal_pool :
+    (called municipal (replicate 16 1) ∷ called municipal (replicate 17 1) ∷ called municipal (replicate 65 1) ∷ [] ≡ 0 ∷ 16 ∷ 4 ∷ [])
+    × (called municipal (100_000_000 ∷ [])
+    ∷ called municipal (100_000_001 ∷ [])
+    ∷ called municipal (4_000_000_000 ∷ [])
+    ∷ called municipal (4_000_000_001 ∷ [])
+    ∷ []
+    ≡ 0 ∷ 17 ∷ 17 ∷ 11 ∷ [])
+unfolding called split_refusal first_refusal total
+of_the_municipal_pool = (refl, refl)
+
+-- "and our own limits remain beside it": the same from the hall
+pub of_the_hall :
+    (called hall (replicate 16 1) ∷ called hall (replicate 17 1) ∷ called hall (replicate 65 1) ∷ [] ≡ 0 ∷ 0 ∷ 4 ∷ [])
+    × (called hall (100_000_000 ∷ [])
+    ∷ called hall (100_000_001 ∷ [])
+    ∷ called hall (4_000_000_000 ∷ [])
+    ∷ called hall (4_000_000_001 ∷ [])
+    ∷ []
+    ≡ 0 ∷ 0 ∷ 0 ∷ 11 ∷ [])
+unfolding called split_refusal first_refusal total
+of_the_hall = (refl, refl)
+
+-- "right after 4": 17 wants of more than 4,000,000,000 are 16, and with limits that no caller may have all is 4: owners of 0 and of 65, a total
+-- of 0 and of 4,000,000,001
+pub in_their_order :
+    (called municipal (4_000_000_001 ∷ replicate 16 0) ≡ 16)
+    × (called (limits_of 0 100_000_000) []
+    ∷ called (limits_of 65 100_000_000) (1 ∷ [])
+    ∷ called (limits_of 16 0) (replicate 17 1)
+    ∷ called (limits_of 16 4_000_000_001) (4_000_000_001 ∷ [])
+    ∷ []
+    ≡ 4 ∷ 4 ∷ 4 ∷ 4 ∷ [])
+unfolding called split_refusal first_refusal total
+in_their_order = (refl, refl)

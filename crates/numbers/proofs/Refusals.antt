@@ -8,26 +8,37 @@ use mathlib.Core.List.{List, [], ◌∷◌, ◌++◌}
 use native.Mathlib.Decide.{ℕ_discrete}
 use native.Mathlib.Omega.{arith}
 use lib.Dec.{leb, eqb}
-use lib.ListN.{get_or-eq_default}
-use borrow.Author.Tests.{leb-true, leb-false, le-leb, eqb-false, eqb-true, not-false}
+use borrow.Author.Tests.{leb-true, le-leb, eqb-false, eqb-true, not-false}
 use Rattle.std.specs.Prelude.{Result, Ok, Err}
 use Rattle.std.specs.Result.{result_unwrap_or}
 use Rattle.numbers.specs.Lists.{any_below}
 use Rattle.numbers.proofs.Any.{any_miss}
 use Rattle.numbers.proofs.Booleans.{both_true, neither_true}
 use Rattle.numbers.specs.declared.refusal.Refusal.{Refusal}
-use Rattle.numbers.specs.declared.refusal.Refusal.TheVariants.{SpoiledBook, YearOver, OutOfTurn, WrongLength, WildPrice, WildAmount, BadRight, UnpricedNode, HourTooLarge, CarryFull, WantTooLarge}
-use Rattle.numbers.specs.Refusals.{Row, ◌if◌, first_refusal, answer_by, number_in, record_in, refusal_of, answered, answer_number, answer_record}
+use Rattle.numbers.specs.declared.refusal.Refusal.TheVariants.{SpoiledBook, YearOver, OutOfTurn, WrongLength, WildPrice, WildAmount, BadRight, UnpricedNode, HourTooLarge, CarryFull, WantTooLarge, TooManyWants, TotalTooLarge}
+use Rattle.numbers.specs.Refusals.{Row, ◌if◌, first_refusal, answer_by, number_in, record_in, all_refusals, refusal_with, refusal_of, answered, answer_number, answer_record}
 
 -- some row of the table has this number
 abbrev pub has_number : ℕ → List Row → Bool
 has_number k [] = false
 has_number k ((number if test) ∷ rows) = eqb number k || has_number k rows
 
+-- each element passes a test
+abbrev pub each : {A : Type 0} → (A → Bool) → List A → Bool
+each passes [] = true
+each passes (x ∷ xs) = passes x && each passes xs
+
+-- the number of a row
+abbrev row_number : Row → ℕ
+row_number (number if test) = number
+
+-- every number of the table passes a test
+abbrev pub each_number : (ℕ → Bool) → List Row → Bool
+each_number passes = each (λ row. passes (row_number row))
+
 -- every number of the table is from low to high
 abbrev pub is_within : ℕ → ℕ → List Row → Bool
-is_within low high [] = true
-is_within low high ((number if test) ∷ rows) = (leb low number && leb number high) && is_within low high rows
+is_within low high = each_number (λ number. leb low number && leb number high)
 
 -- of a table's first row and of the others
 module _ (low high number : ℕ) (rows : List Row) (within : ((leb low number && leb number high) && is_within low high rows) ≡ true) where
@@ -118,13 +129,21 @@ refusal_never k ((number if test) ∷ rows) positive none is =
     let others = neither_true (eqb number k) (has_number k rows) none in
     refusal_never k rows positive others.1 (refusal_skip k number test rows (eqb-false number k others.0) is)
 
+-- the number that comes, if one does, passes the test that every number of the table passes
+pub number_passes : (passes : ℕ → Bool) (rows : List Row) → each_number passes rows ≡ true
+    → (first_refusal rows ≡ 0) ⊎ (passes (first_refusal rows) ≡ true)
+unfolding first_refusal
+number_passes passes [] all = inl refl
+number_passes passes ((number if true) ∷ rows) all = inr (both_true (passes number) (each_number passes rows) all).0
+number_passes passes ((number if false) ∷ rows) all = number_passes passes rows (both_true (passes number) (each_number passes rows) all).1
+
 -- the number that comes, if one does, is from low to high
 pub refusal_within : (low high : ℕ) (rows : List Row) → is_within low high rows ≡ true
     → (first_refusal rows ≡ 0) ⊎ ((low ≤ first_refusal rows) × (first_refusal rows ≤ high))
-unfolding first_refusal
-refusal_within low high [] within = inl refl
-refusal_within low high ((number if true) ∷ rows) within = inr (number_within low high number rows within)
-refusal_within low high ((number if false) ∷ rows) within = refusal_within low high rows (rows_within low high number rows within)
+refusal_within low high rows within =
+    ⊎_elim inl
+    (λ passes. let both = both_true _ _ passes in inr (leb-true low (first_refusal rows) both.0, leb-true (first_refusal rows) high both.1))
+    (number_passes (λ number. leb low number && leb number high) rows within)
 
 -- so it is at most high
 pub refusal_most : (low high : ℕ) (rows : List Row) → is_within low high rows ≡ true → first_refusal rows ≤ high
@@ -154,6 +173,8 @@ refusal_is (UnpricedNode faulty) = refl
 refusal_is HourTooLarge = refl
 refusal_is CarryFull = refl
 refusal_is WantTooLarge = refl
+refusal_is TooManyWants = refl
+refusal_is TotalTooLarge = refl
 
 -- no refusal has the number 0
 pub number_some : (refusal : Refusal) → number_in refusal ≡ 0 → ⊥
@@ -168,8 +189,10 @@ number_some (UnpricedNode faulty) e = omega arith
 number_some HourTooLarge e = omega arith
 number_some CarryFull e = omega arith
 number_some WantTooLarge e = omega arith
+number_some TooManyWants e = omega arith
+number_some TotalTooLarge e = omega arith
 
--- the refusal of a number of the table has that number
+-- the refusal of a number up to 11 has that number
 pub number_back : (number faulty : ℕ) → 0 < number → number ≤ 11 → number_in (refusal_of number faulty) ≡ number
 unfolding any_below
 number_back zero faulty some within = absurd (omega arith)
@@ -178,37 +201,29 @@ number_back (suc n) faulty some within = eqb-true _ _ (not-false _ (any_miss dif
     differs : ℕ → Bool
     differs k = not (eqb (number_in (refusal_of (suc k) faulty)) (suc k))
 
--- and names the record, where the record is 0 in all but 7 and 8
+-- a refusal has this number
+abbrev pub has_refusal : ℕ → Bool
+has_refusal number = eqb (number_in (refusal_of number 0)) number
+
+-- what every refusal of a list passes, the one with a number passes
+refusal_passes : (passes : Refusal → Bool) (number : ℕ) (refusals : List Refusal) → passes SpoiledBook ≡ true → each passes refusals ≡ true
+    → passes (refusal_with number refusals) ≡ true
+refusal_passes passes number [] default all = default
+refusal_passes passes number (refusal ∷ others) default all =
+    let both = both_true (passes refusal) (each passes others) all in
+    by_test (eqb (number_in refusal) number) both.0 (refusal_passes passes number others default both.1)
+  where
+    by_test : (test : Bool) {this other : Refusal} → passes this ≡ true → passes other ≡ true → passes (cond test this other) ≡ true
+    by_test true here there = here
+    by_test false here there = there
+
+-- the refusal of a number names the record, where the record is 0 in all but 7 and 8
 pub record_back : (number faulty : ℕ) → ((number ≡ 7 → ⊥) → (number ≡ 8 → ⊥) → faulty ≡ 0)
     → record_in (refusal_of number faulty) ≡ faulty
-unfolding any_below
 record_back number faulty none = by_7 (ℕ_discrete number 7)
   where
-    names : ℕ → Bool
-    names n = not (eqb (record_in (refusal_of n 0)) 0)
-
-    rows : List Refusal
-    rows =
-        WantTooLarge
-        ∷ SpoiledBook
-        ∷ YearOver
-        ∷ OutOfTurn
-        ∷ WrongLength
-        ∷ WildPrice
-        ∷ WildAmount
-        ∷ BadRight 0
-        ∷ UnpricedNode 0
-        ∷ HourTooLarge
-        ∷ CarryFull
-        ∷ []
-
     names_none : record_in (refusal_of number 0) ≡ 0
-    names_none = by_test (leb 12 number) refl
-      where
-        by_test : (past : Bool) → leb 12 number ≡ past → record_in (refusal_of number 0) ≡ 0
-        by_test true e = let past : 11 ≤ number = omega (arith, leb-true 12 number e) in ap record_in (get_or-eq_default rows WantTooLarge {n = number} past)
-        by_test false e =
-            let inside = leb-false 12 number e in eqb-true _ _ (not-false _ (any_miss names 12 number refl (omega arith)))
+    names_none = eqb-true _ _ (refusal_passes (λ refusal. eqb (record_in refusal) 0) number (all_refusals 0) refl refl)
 
     by_8 : (number ≡ 7 → ⊥) → Dec (number ≡ 8) → record_in (refusal_of number faulty) ≡ faulty
     by_8 not_7 (yes is) = ap (λ (n : ℕ). record_in (refusal_of n faulty)) is
@@ -227,9 +242,9 @@ module _ {A : Type 0} where
   is_accepted (Ok value) = true
   is_accepted (Err refusal) = false
 
-  refusal_or_last : Result A Refusal → Refusal
-  refusal_or_last (Ok value) = WantTooLarge
-  refusal_or_last (Err refusal) = refusal
+  refusal_or_first : Result A Refusal → Refusal
+  refusal_or_first (Ok value) = SpoiledBook
+  refusal_or_first (Err refusal) = refusal
 
   value_or : A → Result A Refusal → A
   value_or other (Ok value) = value
@@ -238,9 +253,9 @@ module _ {A : Type 0} where
   -- a refused call: its number is not 0, and its refusal is that of the number
   pub answered_err : (number faulty : ℕ) (value : A) {refusal : Refusal} → answered number faulty value ≡ Err refusal
       → (0 < number) × (refusal ≡ refusal_of number faulty)
-  unfolding is_accepted refusal_or_last
+  unfolding is_accepted refusal_or_first
   answered_err zero faulty value e = absurd (false≢true (sym (ap is_accepted e)))
-  answered_err (suc n) faulty value e = (omega arith, sym (ap refusal_or_last e))
+  answered_err (suc n) faulty value e = (omega arith, sym (ap refusal_or_first e))
 
   -- an accepted one: its number is 0, and it answers the value
   pub answered_ok : (number faulty : ℕ) (value : A) {given : A} → answered number faulty value ≡ Ok given
@@ -258,6 +273,17 @@ module _ {A : Type 0} where
   pub number_answered : (number faulty : ℕ) (value : A) → number ≤ 11 → answer_number (answered number faulty value) ≡ number
   number_answered zero faulty value within = refl
   number_answered (suc n) faulty value within = number_back (suc n) faulty (omega arith) within
+
+  -- the answer of a table each of whose numbers a refusal has
+  pub table_answered : (rows : List Row) (value : A) → each_number has_refusal rows ≡ true
+      → answer_number (answered (first_refusal rows) 0 value) ≡ first_refusal rows
+  table_answered rows value all =
+      by_number (first_refusal rows) (number_passes has_refusal rows all)
+    where
+      by_number : (number : ℕ) → (number ≡ 0) ⊎ (has_refusal number ≡ true) → answer_number (answered number 0 value) ≡ number
+      by_number zero some = refl
+      by_number (suc n) (inl none) = absurd (omega arith)
+      by_number (suc n) (inr some) = eqb-true _ _ some
 
   pub record_answered : (number faulty : ℕ) (value : A) → ((number ≡ 7 → ⊥) → (number ≡ 8 → ⊥) → faulty ≡ 0)
       → answer_record (answered number faulty value) ≡ faulty

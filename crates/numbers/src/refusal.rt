@@ -1,8 +1,8 @@
 // The refusals of all calls, by the words of the table.
 ghost use Rattle.std.specs.Prelude.{◌≡◌};
 
-// Why a call is refused, in the table's order, which the derived comparison follows. A bad right and an unpriced node name the record that
-// has the fault.
+// Why a call is refused, in the order of the numbers, which the derived comparison follows. A bad right and an unpriced node name the record
+// that has the fault.
 #[derive(Clone, Copy, Debug, PartialEq, Eq, PartialOrd, Ord)]
 pub enum Refusal {
     SpoiledBook,
@@ -16,6 +16,8 @@ pub enum Refusal {
     HourTooLarge,
     CarryFull,
     WantTooLarge,
+    TooManyWants,
+    TotalTooLarge,
 }
 
 impl Refusal {
@@ -37,6 +39,8 @@ impl Refusal {
             Refusal::HourTooLarge => 9,
             Refusal::CarryFull => 10,
             Refusal::WantTooLarge => 11,
+            Refusal::TooManyWants => 16,
+            Refusal::TotalTooLarge => 17,
         }
     }
 

@@ -50,5 +50,5 @@ pub with_peak : (month : ℕ) (peak : Bool) → month ≤ 12 → 2 * month + boo
 with_peak month true h = omega arith
 with_peak month false h = omega arith
 
--- for a refused hour and a given one
-pub ruleset class_laws = (class_refused, class_given, small, with_peak)
+-- for a given hour
+pub ruleset class_laws = (class_given, small, with_peak)

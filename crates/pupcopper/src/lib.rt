@@ -10,7 +10,7 @@ ghost use Rattle.numbers.specs.Refusals.{answer_by};
 ghost use Rattle.calendar.specs.Year.{calendar_refusal, operating_hour};
 ghost use Rattle.rights.specs.Layout.{reading};
 ghost use Rattle.rights.specs.Faults.{faulty_record};
-ghost use Rattle.split.specs.Split.{left, payments_after, split_refusal};
+ghost use Rattle.split.specs.Split.{left, limits_of, payments_after, split_refusal};
 ghost use Rattle.target.specs.Rounding.{round_tenths};
 ghost use Rattle.target.specs.Rows.{row_lines, rows_refusal};
 ghost use Rattle.target.specs.Target.{target_lines, target_refusal};
@@ -27,6 +27,7 @@ use book_words::{BookWords, LentBook};
 use numbers::Refusal;
 use rights::Reader;
 use settlement::Book;
+use split::Limits;
 
 mod book_words;
 mod reports;
@@ -146,23 +147,25 @@ pub extern "C" fn pupcopper_rows(
     reports::number_of(outcome)
 }
 
-// The split call. The report gets what is left of the fund.
+// The split call, with its caller's limits. The report gets what is left of the fund.
 #[unsafe(no_mangle)]
 #[tactic(auto, using(crate::proofs::ReportWords::handed_on))]
 pub extern "C" fn pupcopper_split(
+    owners: usize,
+    total: u64,
     fund: u64,
     wants: &[u64],
     payments: &mut [u64],
     report: &mut [u64],
 ) -> u8
-    ensures value { result ≡ number_of (report_refusal allocation_words (length report.old)) (split_refusal wants.now (length payments.old)) }
-    ensures payments_after { payments.new ≡ answer_by (report_refusal allocation_words (length report.old)) (payments_after fund wants.now payments.old) payments.old }
-    ensures report_after { report.new ≡ answer_by (report_refusal allocation_words (length report.old)) (answer_by (split_refusal wants.now (length payments.old)) (left fund wants.now) 0 ∷ []) report.old }
+    ensures value { result ≡ number_of (report_refusal allocation_words (length report.old)) (split_refusal (limits_of owners total) wants.now (length payments.old)) }
+    ensures payments_after { payments.new ≡ answer_by (report_refusal allocation_words (length report.old)) (payments_after (limits_of owners total) fund wants.now payments.old) payments.old }
+    ensures report_after { report.new ≡ answer_by (report_refusal allocation_words (length report.old)) (answer_by (split_refusal (limits_of owners total) wants.now (length payments.old)) (left fund wants.now) 0 ∷ []) report.old }
 {
     if report.len() != reports::ALLOCATION_WORDS {
         return Refusal::WrongLength.number();
     }
-    let outcome = split::split(fund, wants, payments);
+    let outcome = split::split(Limits { owners, total }, fund, wants, payments);
     report[0] = outcome.unwrap_or(0);
     reports::number_of(outcome)
 }

@@ -1,18 +1,20 @@
 -- A split over all owners, and the cells after it.
 -- Assumes nothing.
-use Prim.Native.Nat.{ℕ, ◌+◌, ◌-◌, ◌≤◌}
-use mathlib.Core.Path.{◌≡◌, ap, ap₂, ◌∙◌}
+use Prim.Native.Nat.{ℕ, ◌+◌, ◌-◌, ◌≤◌, ◌<◌}
+use mathlib.Core.Path.{◌≡◌, refl, sym, ap, ap₂, ◌∙◌}
+use mathlib.Core.Bool.{false}
 use mathlib.Core.List.{List}
 use native.Mathlib.Omega.{arith}
 use lib.ListN.{length, get_or}
 use Rattle.numbers.specs.Limits.{owners, most_cents}
 use Rattle.numbers.specs.Lists.{total}
+use Rattle.numbers.proofs.Refusals.{has_number, refusal_never}
 use Rattle.numbers.proofs.Counts.{get_or_le_total, list_of_elements, total_add, total_mono}
 use Rattle.split.specs.Split.{payments, left, split_refusal}
-use Rattle.split.proofs.Answers.{accepted}
+use Rattle.split.proofs.Answers.{accepted, scope_rows, widest_table}
 use Rattle.split.proofs.Laws.{payments_at_most, closes}
 use Rattle.settlement.specs.declared.payment.Paid.{Paid}
-use Rattle.settlement.specs.Events.{unpaid_of, added_to}
+use Rattle.settlement.specs.Events.{hall, unpaid_of, added_to}
 use Rattle.settlement.specs.InnerContracts.{paid_from}
 
 -- what is unpaid is no more than what was wanted
@@ -29,9 +31,17 @@ added_total cells more all both =
     total_add (λ i. get_or cells i 0) (λ i. get_or more i 0) owners
     ∙ ap₂ (λ (m n : ℕ). m + n) (ap total (list_of_elements cells 0 all)) (ap total (list_of_elements more 0 both))
 
--- a split over 64 wants that come to no more than it takes is not refused
-pub not_refused : (wants : List ℕ) → length wants ≡ owners → total wants ≤ most_cents → split_refusal wants owners ≡ 0
-not_refused wants all small = accepted wants owners (omega arith) (omega arith) small
+-- a split over 64 wants that come to no more than the hall takes is not refused
+pub not_refused : (wants : List ℕ) → length wants ≡ owners → total wants ≤ most_cents → split_refusal hall wants owners ≡ 0
+not_refused wants all small = accepted hall wants owners (omega arith) (omega arith) refl (omega arith) small small
+
+-- and the hall never sees 16 or 17, whatever is split
+pub never_of_the_pool : (wants : List ℕ) (places : ℕ)
+    → (split_refusal hall wants places ≡ 16 → ⊥) × (split_refusal hall wants places ≡ 17 → ⊥)
+never_of_the_pool wants places = (never 16 (omega arith) refl, never 17 (omega arith) refl)
+  where
+    never : (number : ℕ) → 0 < number → has_number number (scope_rows wants places) ≡ false → split_refusal hall wants places ≡ number → ⊥
+    never number some none e = refusal_never number (scope_rows wants places) some none (sym (widest_table wants places) ∙ e)
 
 -- payments, what is left and what is unpaid, put together
 pub put_together : (fund : ℕ) (wants : List ℕ) (demand rest : ℕ) (paid unpaid : List ℕ) → demand ≡ total wants → rest ≡ left fund wants

@@ -9,7 +9,8 @@ use Rattle.numbers.specs.Refusals.{Row, ◌if◌, first_refusal, answer_by, numb
 use Rattle.numbers.specs.Signs.{positive, negative}
 use Rattle.calendar.specs.Year.{hours_in_year, months_in_year, is_month_end}
 use Rattle.rights.specs.Faults.{fault_rows, faulty_record}
-use Rattle.split.specs.Split.{payments, left}
+use Rattle.split.specs.declared.Limits.{Limits}
+use Rattle.split.specs.Split.{limits_of, payments, left}
 use Rattle.target.specs.Target.{is_wrong_lines, lent_rows, targets}
 use Rattle.settlement.specs.declared.Book.{Book}
 use Rattle.settlement.specs.declared.Event.{Event}
@@ -65,6 +66,10 @@ fund year_end_call book = book.yearsurplus
 -- D, the sum of the wants
 unfoldable pub demand : Call → Book → ℕ
 demand call book = total (wants call book)
+
+-- "our own limits", with which an event splits: all owners, and as many cents as wants may come to
+abbrev pub hall : Limits
+hall = limits_of owners most_cents
 
 -- what the split of F over the wants pays
 abbrev pub paid : Call → Book → List ℕ

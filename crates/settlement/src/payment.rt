@@ -9,6 +9,13 @@ ghost use Rattle.settlement.specs.InnerContracts.{paid_from, shares_of};
 
 use crate::{Book, Funding, cells, lines};
 use numbers::{OWNERS, Refusal};
+use split::Limits;
+
+// The hall's own limits for a split: all owners, and the most cents that wants come to.
+const HALL: Limits = Limits {
+    owners: OWNERS,
+    total: numbers::MOST_CENTS,
+};
 
 // What a split over all owners pays each, what it leaves unpaid, and what is left of the fund.
 #[derive(Clone, Copy)]
@@ -52,14 +59,14 @@ pub(crate) fn share_out(
     Ok(Shares { paid, monthshort })
 }
 
-// Splits a fund over 64 wants that a split takes.
+// Splits a fund over 64 wants that the hall's limits take.
 pub(crate) fn pay(fund: u64, wants: &[u64; OWNERS]) -> Paid
     requires { total wants.now ≤ most_cents }
     ensures { result ≡ paid_from fund wants.now }
 {
     let demand = numbers::capped_total(numbers::MOST_CENTS, 0, wants);
     let mut payments = [0u64; OWNERS];
-    let left = split::split(fund, wants, &mut payments).unwrap();
+    let left = split::split(HALL, fund, wants, &mut payments).unwrap();
     let unpaid = cells::unpaid_of(wants, &payments);
     Paid {
         funding: Funding { fund, demand },

@@ -1,84 +1,156 @@
 -- What a split call answers, by its refusal table: laws for the call's own proof and for its callers.
 -- Assumes nothing.
-use Prim.Native.Nat.{ℕ, zero, suc, ◌≤◌, ◌<◌}
-use mathlib.Core.Path.{◌≡◌, refl, ap}
-use mathlib.Core.List.{List}
-use lib.ListN.{length}
-use Rattle.std.specs.Prelude.{Ok, Err}
-use Rattle.std.specs.Result.{result_unwrap_or}
+use Prim.Native.Nat.{ℕ, ◌+◌, ◌≤◌, ◌<◌}
+use mathlib.Core.Path.{◌≡◌, refl, sym, ap, ap₂, subst, ◌∙◌}
+use mathlib.Core.Bool.{true, false, not}
+use mathlib.Core.List.{List, [], ◌∷◌}
 use native.Mathlib.Omega.{arith}
-use borrow.Author.Tests.{lt-ltb, le-ltb, eq-eqb, ne_eqb}
+use lib.Dec.{ltb, eqb}
+use lib.ListN.{length, get_or}
+use Rattle.std.specs.Prelude.{Result, Ok, Err}
+use Rattle.std.specs.Result.{result_unwrap_or}
+use Rattle.std.proofs.lemmas.Bool.Decides.{nat_tests}
 use Rattle.numbers.specs.Limits.{owners, most_cents}
 use Rattle.numbers.specs.Lists.{total}
-use Rattle.numbers.specs.Refusals.{first_refusal, refusal_of, answer_by, answer_number, answered}
-use Rattle.numbers.proofs.Refusals.{answer_accepted, answer_refused, number_answered, refusal_most, value_answered}
-use Rattle.split.proofs.Laws.{closes_enough, left_enough, nothing_left}
-use Rattle.split.specs.Split.{payments, left, split_refusal, allocation, payments_after}
+use Rattle.numbers.specs.declared.refusal.Refusal.{Refusal}
+use Rattle.numbers.specs.Refusals.{Row, ◌if◌, first_refusal, refusal_of, answer_by, answer_number, answered}
+use Rattle.numbers.proofs.Refusals.{answer_accepted, answer_refused, answered_ok, refused_with, table_answered, value_answered}
+use Rattle.split.specs.declared.Limits.{Limits}
+use Rattle.split.specs.Split.{WithinACent, Accepted, want, payment, payments, left, limits_of, has_wrong_limits, split_refusal, allocation, payments_after}
+use Rattle.split.proofs.Laws.{payments_length, payment_at, payments_at_most, closes, closes_enough, left_enough, nothing_left, within_a_cent, equal_wants}
 
-module _ (wants : List ℕ) (places : ℕ) where
-  pub unequal : (length wants ≡ places → ⊥) → split_refusal wants places ≡ 4
+-- the rows in their order: each is reached where the ones before it let the call pass
+module _ (limits : Limits) (wants : List ℕ) (places : ℕ) where
+  pub unequal : (length wants ≡ places → ⊥) → split_refusal limits wants places ≡ 4
   unfolding split_refusal first_refusal
-  unequal h = rw (ne_eqb (length wants) places h)
+  unequal h = grind (arith, nat_tests)
 
   module _ (equal : length wants ≡ places) where
-    pub too_many : owners < length wants → split_refusal wants places ≡ 4
+    pub too_long : owners < length wants → split_refusal limits wants places ≡ 4
     unfolding split_refusal first_refusal
-    too_many h = rw (eq-eqb (length wants) places equal, lt-ltb owners (length wants) h)
+    too_long h = grind (arith, nat_tests)
 
-    module _ (few : length wants ≤ owners) where
-      pub too_large : most_cents < total wants → split_refusal wants places ≡ 11
+    module _ (short : length wants ≤ owners) where
+      pub wrong_limits : has_wrong_limits limits ≡ true → split_refusal limits wants places ≡ 4
       unfolding split_refusal first_refusal
-      too_large m =
-          rw (eq-eqb (length wants) places equal, le-ltb owners (length wants) few, lt-ltb most_cents (total wants) m)
+      wrong_limits h = grind (arith, nat_tests)
 
-      pub accepted : total wants ≤ most_cents → split_refusal wants places ≡ 0
-      unfolding split_refusal first_refusal
-      accepted m =
-          rw (eq-eqb (length wants) places equal, le-ltb owners (length wants) few, le-ltb most_cents (total wants) m)
+      module _ (right : has_wrong_limits limits ≡ false) where
+        pub too_many : limits.owners < length wants → split_refusal limits wants places ≡ 16
+        unfolding split_refusal first_refusal
+        too_many h = grind (arith, nat_tests)
 
-  -- no number of the table is above 11
-  pub split_most : split_refusal wants places ≤ 11
-  unfolding split_refusal
-  split_most = refusal_most 4 11 _ refl
+        module _ (few : length wants ≤ limits.owners) where
+          pub too_large : most_cents < total wants → split_refusal limits wants places ≡ 11
+          unfolding split_refusal first_refusal
+          too_large h = grind (arith, nat_tests)
 
--- a split that is not refused pays the payments, and leaves what is left
-module _ (fund : ℕ) (wants : List ℕ) where
-  pub pays : (before : List ℕ) → split_refusal wants (length before) ≡ 0 → payments_after fund wants before ≡ payments fund wants
+          module _ (small : total wants ≤ most_cents) where
+            pub too_much : limits.total < total wants → split_refusal limits wants places ≡ 17
+            unfolding split_refusal first_refusal
+            too_much h = grind (arith, nat_tests)
+
+            pub accepted : total wants ≤ limits.total → split_refusal limits wants places ≡ 0
+            unfolding split_refusal first_refusal
+            accepted h = grind (arith, nat_tests)
+
+-- the table of the scope paper
+abbrev pub scope_rows : List ℕ → ℕ → List Row
+scope_rows wants places =
+    (4 if not (eqb (length wants) places)) ∷ (4 if ltb owners (length wants)) ∷ (11 if ltb most_cents (total wants)) ∷ []
+
+-- with the widest limits that is all, and 16 and 17 never come
+pub widest_table : (wants : List ℕ) (places : ℕ) → split_refusal (limits_of owners most_cents) wants places ≡ first_refusal (scope_rows wants places)
+unfolding split_refusal first_refusal
+widest_table wants places = grind (arith, nat_tests)
+
+-- a call's answer in numbers: each number of the table is a refusal's
+pub split_number : (limits : Limits) (fund : ℕ) (wants : List ℕ) (places : ℕ)
+    → answer_number (allocation limits fund wants places) ≡ split_refusal limits wants places
+unfolding allocation split_refusal
+split_number limits fund wants places = table_answered _ (left fund wants) refl
+
+module _ (limits : Limits) (fund : ℕ) (wants : List ℕ) where
+  -- and what is left, or 0
+  pub left_or_none : (places : ℕ)
+      → result_unwrap_or (allocation limits fund wants places) 0 ≡ answer_by (split_refusal limits wants places) (left fund wants) 0
+  unfolding allocation
+  left_or_none places = value_answered (split_refusal limits wants places) 0 (left fund wants) 0
+
+  -- a split that is not refused pays the payments, and leaves what is left
+  pub pays : (before : List ℕ) → split_refusal limits wants (length before) ≡ 0
+      → payments_after limits fund wants before ≡ payments fund wants
   unfolding payments_after
   pays before clear = answer_accepted _ (payments fund wants) before clear
 
-  pub leaves : (places : ℕ) → split_refusal wants places ≡ 0 → allocation fund wants places ≡ Ok (left fund wants)
+  pub leaves : (places : ℕ) → split_refusal limits wants places ≡ 0 → allocation limits fund wants places ≡ Ok (left fund wants)
   unfolding allocation
   leaves places clear = ap (λ (number : ℕ). answered number 0 (left fund wants)) clear
 
-  -- its answer in numbers: the table's number, and what is left or 0
-  pub split_number : (places : ℕ) → answer_number (allocation fund wants places) ≡ split_refusal wants places
-  unfolding allocation
-  split_number places = number_answered (split_refusal wants places) 0 (left fund wants) (split_most wants places)
-
-  pub left_or_none : (places : ℕ) → result_unwrap_or (allocation fund wants places) 0 ≡ answer_by (split_refusal wants places) (left fund wants) 0
-  unfolding allocation
-  left_or_none places = value_answered (split_refusal wants places) 0 (left fund wants) 0
-
   -- a refused one answers the refusal of the number, and leaves the payments as they were
-  pub refused_answer : (places : ℕ) → 0 < split_refusal wants places
-      → allocation fund wants places ≡ Err (refusal_of (split_refusal wants places) 0)
+  pub refused_answer : (places : ℕ) → 0 < split_refusal limits wants places
+      → allocation limits fund wants places ≡ Err (refusal_of (split_refusal limits wants places) 0)
   unfolding allocation
-  refused_answer places some = by_number (split_refusal wants places) some
-    where
-      by_number : (number : ℕ) → 0 < number → answered number 0 (left fund wants) ≡ Err (refusal_of number 0)
-      by_number zero none = absurd (omega arith)
-      by_number (suc n) some = refl
+  refused_answer places some = refused_with (split_refusal limits wants places) 0 (left fund wants) some
 
-  pub refused_payments : (before : List ℕ) → 0 < split_refusal wants (length before) → payments_after fund wants before ≡ before
+  pub refused_payments : (before : List ℕ) → 0 < split_refusal limits wants (length before)
+      → payments_after limits fund wants before ≡ before
   unfolding payments_after
-  refused_payments before some = answer_refused (split_refusal wants (length before)) (payments fund wants) before (omega arith)
+  refused_payments before some =
+      answer_refused (split_refusal limits wants (length before)) (payments fund wants) before (omega arith)
+
+-- ---- an accepted call
+
+-- its limits are good, and its wants within them
+pub accepted_means : (limits : Limits) (wants : List ℕ) (places : ℕ) → split_refusal limits wants places ≡ 0
+    → (has_wrong_limits limits ≡ false) × ((length wants ≤ limits.owners) × (total wants ≤ limits.total))
+unfolding split_refusal first_refusal
+accepted_means limits wants places clear = (grind (arith, nat_tests), (grind (arith, nat_tests), grind (arith, nat_tests)))
+
+-- what it promises, whatever the limits: from the call's promises, and from what it answered
+pub accepted_call : (limits : Limits) (fund : ℕ) (wants before : List ℕ) {outcome : Result ℕ Refusal} {after : List ℕ} {rest : ℕ}
+    → outcome ≡ allocation limits fund wants (length before) → after ≡ payments_after limits fund wants before → outcome ≡ Ok rest
+    → Accepted limits fund wants rest after
+unfolding allocation
+accepted_call limits fund wants before {outcome} {after} {rest} answers writes accepts =
+    record {
+      good_limits = inside.0;
+      few = inside.1.0;
+      within = inside.1.1;
+      gives = gives;
+      pays = paid;
+      as_many = ap length paid ∙ payments_length fund wants;
+      closes = ap₂ (λ (p : List ℕ) (r : ℕ). total p + r) paid gives ∙ closes fund wants;
+      at_most = λ i. subst (λ (p : List ℕ). get_or p i 0 ≤ want wants i) (sym paid) (payments_at_most fund wants i);
+      near = λ i l. subst (λ (c : ℕ). WithinACent fund (total wants) (want wants i) c) (sym (at i l)) (within_a_cent fund wants i);
+      alike = λ i j l m same. let both = equal_wants fund wants i j l same in (omega (arith, at i (omega arith), at j m), omega (arith, at i (omega arith), at j m));
+      enough = λ h. let all = closes_enough fund wants h in (paid ∙ all.0, omega (arith, gives, all.1));
+      short = λ h. gives ∙ nothing_left fund wants h;
+    }
+  where
+    number : (split_refusal limits wants (length before) ≡ 0) × (rest ≡ left fund wants)
+    number = answered_ok (split_refusal limits wants (length before)) 0 (left fund wants) (sym answers ∙ accepts)
+
+    inside : (has_wrong_limits limits ≡ false) × ((length wants ≤ limits.owners) × (total wants ≤ limits.total))
+    inside = accepted_means limits wants (length before) number.0
+
+    gives : rest ≡ left fund wants
+    gives = number.1
+
+    paid : after ≡ payments fund wants
+    paid = writes ∙ pays limits fund wants before number.0
+
+    at : (i : ℕ) → i < length wants → get_or after i 0 ≡ payment fund wants i
+    at i l = ap (λ (p : List ℕ). get_or p i 0) paid ∙ payment_at fund wants i l
 
 -- for what a split answers
 pub ruleset answers = (
   unequal,
+  too_long,
+  wrong_limits,
   too_many,
   too_large,
+  too_much,
   refused_answer,
   refused_payments,
   accepted,

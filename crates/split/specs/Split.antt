@@ -1,11 +1,12 @@
--- The proportional split of a fund over a list of wants, in whole cents. All of it is for any fund and any list: the bounds of
--- owners and cents stand in the refusal table alone.
+-- The proportional split of a fund over a list of wants, in whole cents. What is paid and left is for any fund and any list: the bounds of
+-- owners and cents, a caller's own among them, stand in the refusal table, and in what an accepted call promises.
 -- Assumes nothing.
-use Rattle.std.specs.Prelude.{ℕ, ◌+◌, ◌-◌, ◌*◌, ◌/◌, ◌≤◌, ◌<◌, ◌≡◌, Bool, cond, not, ◌&&◌, ◌||◌, List, [], ◌∷◌, leb, ltb, eqb, length, get_or, Result}
+use Rattle.std.specs.Prelude.{ℕ, ◌+◌, ◌-◌, ◌*◌, ◌/◌, ◌≤◌, ◌<◌, ◌≡◌, Bool, false, cond, not, ◌&&◌, ◌||◌, List, [], ◌∷◌, leb, ltb, eqb, length, get_or, Result}
 use Rattle.numbers.specs.Limits.{owners, most_cents}
 use Rattle.numbers.specs.Lists.{total, count_below, list_below}
 use Rattle.numbers.specs.declared.refusal.Refusal.{Refusal}
 use Rattle.numbers.specs.Refusals.{first_refusal, ◌if◌, answer_by, answered}
+use Rattle.split.specs.declared.Limits.{Limits}
 
 -- w(i), the want of owner i
 abbrev pub want : List ℕ → ℕ → ℕ
@@ -53,20 +54,57 @@ pub record WithinACent (fund demand want paid : ℕ) : Type 0 where
   pub not_above : fund < demand → demand * paid < fund * want + demand
   pub not_below : fund < demand → fund * want < demand * paid + demand
 
--- the refusals of a split call over these wants, with so many payments lent: 4, "split slices of unequal length or above 64"; 11,
--- "split called with D above 4,000,000,000"
-unfoldable pub split_refusal : List ℕ → ℕ → ℕ
-split_refusal wants places =
+-- ---- a call, with its caller's limits
+
+-- "The bounds become two given numbers": this many owners and this total
+abbrev pub limits_of : ℕ → ℕ → Limits
+limits_of most sum = record { owners = most; total = sum }
+
+-- a number is outside 1 to the most
+abbrev pub is_outside : ℕ → ℕ → Bool
+is_outside most number = ltb number 1 || ltb most number
+
+-- "owners 1 to 64 and total 1 to 4,000,000,000 (outside these, 4)"
+abbrev pub has_wrong_limits : Limits → Bool
+has_wrong_limits limits = is_outside owners limits.owners || is_outside most_cents limits.total
+
+-- the refusals of a split call over these wants, with so many payments lent: 4, "split slices of unequal length or above 64", and limits outside
+-- their ranges; "16 when there are more wants than that caller's owners, right after 4"; 11, "split called with D above 4,000,000,000";
+-- "17 when D is above that caller's total but not above 4,000,000,000, right after 11"
+unfoldable pub split_refusal : Limits → List ℕ → ℕ → ℕ
+split_refusal limits wants places =
     first_refusal
     ((4 if not (eqb (length wants) places))
     ∷ (4 if ltb owners (length wants))
+    ∷ (4 if has_wrong_limits limits)
+    ∷ (16 if ltb limits.owners (length wants))
     ∷ (11 if ltb most_cents (total wants))
+    ∷ (17 if ltb limits.total (total wants))
     ∷ [])
 
 -- what a split call answers: what is left of the fund
-unfoldable pub allocation : ℕ → List ℕ → ℕ → Result ℕ Refusal
-allocation fund wants places = answered (split_refusal wants places) 0 (left fund wants)
+unfoldable pub allocation : Limits → ℕ → List ℕ → ℕ → Result ℕ Refusal
+allocation limits fund wants places = answered (split_refusal limits wants places) 0 (left fund wants)
 
 -- what stands in the lent payments after a split call
-unfoldable pub payments_after : ℕ → List ℕ → List ℕ → List ℕ
-payments_after fund wants before = answer_by (split_refusal wants (length before)) (payments fund wants) before
+unfoldable pub payments_after : Limits → ℕ → List ℕ → List ℕ → List ℕ
+payments_after limits fund wants before = answer_by (split_refusal limits wants (length before)) (payments fund wants) before
+
+-- what an accepted call promises a caller with these limits, "the split's facts .. for every such pair": good limits, which the wants keep;
+-- what is left, and the payments, one for each want; no cent made or lost; no payment above its want, each "less than one cent from" its
+-- exact share, and those of equal wants a cent apart at most, the lower number first; the wants and "F - D is left" with enough in the
+-- fund, else "Nothing is left"
+pub record Accepted (limits : Limits) (fund : ℕ) (wants : List ℕ) (rest : ℕ) (paid : List ℕ) : Type 0 where
+  pub good_limits : has_wrong_limits limits ≡ false
+  pub few : length wants ≤ limits.owners
+  pub within : total wants ≤ limits.total
+  pub gives : rest ≡ left fund wants
+  pub pays : paid ≡ payments fund wants
+  pub as_many : length paid ≡ length wants
+  pub closes : total paid + rest ≡ fund
+  pub at_most : (i : ℕ) → get_or paid i 0 ≤ want wants i
+  pub near : (i : ℕ) → i < length wants → WithinACent fund (total wants) (want wants i) (get_or paid i 0)
+  pub alike : (i j : ℕ) → i < j → j < length wants → want wants i ≡ want wants j
+      → (get_or paid j 0 ≤ get_or paid i 0) × (get_or paid i 0 ≤ get_or paid j 0 + 1)
+  pub enough : total wants ≤ fund → (paid ≡ wants) × (rest + total wants ≡ fund)
+  pub short : fund < total wants → rest ≡ 0

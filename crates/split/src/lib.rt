@@ -4,11 +4,32 @@
 
 ghost use Rattle.std.specs.Prelude.{ℕ, ◌<◌, ◌≤◌, ◌≡◌, length, get_or};
 ghost use Rattle.numbers.specs.Limits.{most_cents};
-ghost use Rattle.numbers.specs.Lists.{list_below};
+ghost use Rattle.numbers.specs.Lists.{list_below, total};
+ghost use Rattle.numbers.specs.Refusals.{answered};
 ghost use Rattle.split.specs.InnerContracts.{place_of, with_odd_cent, Short, WholePaid};
-ghost use Rattle.split.specs.Split.{payment, allocation, payments_after, stands_ahead};
+ghost use Rattle.split.specs.Split.{payment, allocation, has_wrong_limits, payments_after, split_refusal, stands_ahead};
 
 use numbers::{OWNERS, Refusal};
+
+// A caller's limits: for how many owners it may give wants, at most, and how many cents these may come to. A call takes 1 to 64 owners
+// and a total of 1 to 4,000,000,000, and refuses other limits.
+#[derive(Clone, Copy, Debug, PartialEq, Eq)]
+pub struct Limits {
+    pub owners: usize,
+    pub total: u64,
+}
+
+impl Limits {
+    // Whether a call refuses them.
+    fn are_wrong(self) -> bool
+        ensures { result ≡ has_wrong_limits self }
+    {
+        self.owners < 1
+            || self.owners > OWNERS
+            || self.total < 1
+            || self.total > numbers::MOST_CENTS
+    }
+}
 
 // Pays the whole part of each share and keeps its remainder. Gives the cents still unpaid.
 // Fund, sum, wants and payments go all four together through two functions alone; fund, wants and payments go through four, two of them
@@ -86,20 +107,36 @@ fn pay_shares(fund: u64, sum: u64, wants: &[u64], payments: &mut [u64])
     }
 }
 
-// Splits the fund over the wants into as many payments: each its want if the fund has enough, else its share of the fund, whole
-// cents first and odd cents to the largest remainders. A refusal leaves the payments as they were.
-#[tactic(auto, using(crate::proofs::Answers::answers), unfolding(crate::specs::Split::payments))]
-pub fn split(fund: u64, wants: &[u64], payments: &mut [u64]) -> Result<u64, Refusal>
-    ensures value { result ≡ allocation fund wants.now (length payments.old) }
-    ensures payments_after { payments.new ≡ payments_after fund wants.now payments.old }
+// The sum of the wants of a call with so many payments lent, unless it is refused. At most 64 wants are summed, and before 16 is looked at, so
+// that the rows stand one under another.
+#[tactic(auto, using(crate::proofs::Answers::answers))]
+fn demand(limits: Limits, wants: &[u64], places: usize) -> Result<u64, Refusal>
+    ensures { result ≡ answered (split_refusal limits wants.now places) 0 (total wants.now) }
 {
-    if wants.len() != payments.len() || wants.len() > OWNERS {
+    if wants.len() != places || wants.len() > OWNERS || limits.are_wrong() {
         return Err(Refusal::WrongLength);
     }
     let sum = numbers::capped_total(numbers::MOST_CENTS + 1, 0, wants);
+    if wants.len() > limits.owners {
+        return Err(Refusal::TooManyWants);
+    }
     if sum > numbers::MOST_CENTS {
         return Err(Refusal::WantTooLarge);
     }
+    if sum > limits.total {
+        return Err(Refusal::TotalTooLarge);
+    }
+    Ok(sum)
+}
+
+// Splits the fund over the wants into as many payments, within the caller's limits: each its want if the fund has enough, else its share
+// of the fund, whole cents first and odd cents to the largest remainders. Gives what is left. A refusal leaves the payments as they were.
+#[tactic(auto, using(crate::proofs::Answers::answers), unfolding(crate::specs::Split::payments))]
+pub fn split(limits: Limits, fund: u64, wants: &[u64], payments: &mut [u64]) -> Result<u64, Refusal>
+    ensures value { result ≡ allocation limits fund wants.now (length payments.old) }
+    ensures payments_after { payments.new ≡ payments_after limits fund wants.now payments.old }
+{
+    let sum = demand(limits, wants, payments.len())?;
     if fund >= sum {
         payments.copy_from_slice(wants);
         return Ok(fund - sum);

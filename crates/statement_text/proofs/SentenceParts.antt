@@ -17,17 +17,17 @@ use Rattle.statement_text.proofs.Pieces.{put_then, put_as}
 -- ---- the refusal's word
 
 -- a table with the words' bytes has each word at its number
-pub word_at : (table : List (Bor (List ℕ))) (n : ℕ) (other : Bor (List ℕ)) → map (λ (w : Bor (List ℕ)). w.now) table ≡ map codes (no_word ∷ words)
-    → n < 12 → (get_or table n other).now ≡ word_of n
+pub word_at : (table : List (Bor (List ℕ))) (n : ℕ) (other : Bor (List ℕ)) → map (λ (w : Bor (List ℕ)). w.now) table ≡ map codes words
+    → n < 18 → (get_or table n other).now ≡ word_of n
 unfolding word_of
 word_at table n other same within =
     sym (get_or-mapped (λ (w : Bor (List ℕ)). w.now) table n other)
     ∙ ap (λ (l : List (List ℕ)). get_or l n other.now) same
-    ∙ get_or-map codes (no_word ∷ words) n no_word other.now within
+    ∙ get_or-map codes words n no_word other.now within
 
-pub past_words : (n : ℕ) → 12 ≤ n → codes no_word ≡ word_of n
+pub past_words : (n : ℕ) → 18 ≤ n → codes no_word ≡ word_of n
 unfolding word_of
-past_words n past = ap codes (sym (get_or-eq_default (no_word ∷ words) no_word past))
+past_words n past = ap codes (sym (get_or-eq_default words no_word past))
 
 -- ---- the event
 

@@ -21,10 +21,16 @@ pub rights_file_refused : sentence 0 0 4 0 ≡ codes "Rights file is refused: 4,
 unfolding sentence record_phrase refusal_phrase event_phrase word_of digits digits_within
 rights_file_refused = refl
 
-pub past_the_table : sentence 72 0 12 0 ≡ codes "Hour 0 is refused: 12, not in the table.\n"
+-- 12 to 15 are not given yet
+pub not_in_the_table : sentence 72 0 12 0 ≡ codes "Hour 0 is refused: 12, not in the table.\n"
 unfolding sentence record_phrase refusal_phrase event_phrase word_of digits digits_within
-past_the_table = refl
+not_in_the_table = refl
 
 pub not_refused : sentence 72 17 0 3 ≡ []
 unfolding sentence
 not_refused = refl
+
+-- the words of a split's own refusals, which no event gives
+pub words_of_a_split : (word_of 16 ≡ codes "too many wants") × (word_of 17 ≡ codes "total too large")
+unfolding word_of
+words_of_a_split = (refl, refl)

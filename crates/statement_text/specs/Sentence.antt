@@ -6,10 +6,15 @@ use Prim.Native.Char.{code}
 use Prim.Native.String.{String}
 use Rattle.statement_text.specs.Text.{newline, field}
 
--- the refusals' words, in the table's order from 1 on
+-- what stands for the word of a number that no refusal has
+abbrev pub no_word : String
+no_word = "not in the table"
+
+-- the refusals' words, each at its number: 0 to 17
 abbrev pub words : List String
 words =
-    "spoiled book"
+    no_word
+    ∷ "spoiled book"
     ∷ "year over"
     ∷ "out of turn"
     ∷ "wrong length"
@@ -20,14 +25,17 @@ words =
     ∷ "hour too large"
     ∷ "carry full"
     ∷ "want too large"
+    ∷ no_word
+    ∷ no_word
+    ∷ no_word
+    ∷ no_word
+    ∷ "too many wants"
+    ∷ "total too large"
     ∷ []
 
--- "the refusal's word from the table"; 0 and the numbers past the table have none there
-abbrev pub no_word : String
-no_word = "not in the table"
-
+-- "the refusal's word from the table"
 unfoldable pub word_of : ℕ → List ℕ
-word_of refusal = codes (get_or (no_word ∷ words) refusal no_word)
+word_of refusal = codes (get_or words refusal no_word)
 
 -- "the event and its number", by the event's letter; the rights file has no number
 unfoldable pub event_phrase : ℕ → ℕ → List ℕ

@@ -10,9 +10,12 @@ use crate::lent::{Text, has_room};
 // The room that one sentence asks for.
 pub const SENTENCE_ROOM: usize = 112;
 
-// The refusals' words, in the table's order from 1 on; 0 has none there.
-const WORDS: [&str; 12] = [
-    "not in the table",
+// What stands for the word of a number that no refusal has.
+const NO_WORD: &str = "not in the table";
+
+// The refusals' words, each at its number.
+const WORDS: [&str; 18] = [
+    NO_WORD,
     "spoiled book",
     "year over",
     "out of turn",
@@ -24,6 +27,12 @@ const WORDS: [&str; 12] = [
     "hour too large",
     "carry full",
     "want too large",
+    NO_WORD,
+    NO_WORD,
+    NO_WORD,
+    NO_WORD,
+    "too many wants",
+    "total too large",
 ];
 
 // One sentence on a refusal, behind a place of the buffer: the event and its number, the refusal's number and word, and in 7 and 8
@@ -101,7 +110,7 @@ fn word_of(refusal: u8) -> &'static str
     if place < WORDS.len() {
         return WORDS[place];
     }
-    WORDS[0]
+    NO_WORD
 }
 
 // The record, for the refusals that one record calls for.

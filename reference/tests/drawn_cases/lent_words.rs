@@ -3,6 +3,7 @@
 //! is lent; and the opening of a book.
 
 use reference::draws::Draws;
+use reference::split::{Limits, HALL, SMALL_POOL};
 use reference::words::{self, Event, COUNTS, SETTLED, SHORTFALLS, SURPLUSES};
 use reference::words::{CLOSED, STEPPED, STEP_ROOM};
 
@@ -77,7 +78,9 @@ fn compare_without_book(case: &mut Case) {
     let wants = [(); 3].map(|()| case.draws.below(2_000_000_000));
     let lent = wrong_report(&mut case.draws, words::ALLOCATION);
     let fund = case.draws.below(4_000_000_000);
-    refused_untouched(&compare_split(case, fund, &wants, &lent), &lent);
+    let few = Limits { owners: 2, ..HALL };
+    let limits = case.draws.one_of(&[HALL, SMALL_POOL, few]);
+    refused_untouched(&compare_split(case, limits, fund, &wants, &lent), &lent);
 }
 
 /// A report of another number of words, on any book.

@@ -3,6 +3,7 @@
 
 use reference::book::HourInput;
 use reference::sentence::Stopped;
+use reference::split::Limits;
 use reference::words::{BookWords, Event, LentText};
 
 #[link(name = "pupcopper", kind = "static")]
@@ -47,6 +48,8 @@ extern "C" {
         report_words: usize,
     ) -> u8;
     fn pupcopper_split(
+        owners: usize,
+        total: u64,
         fund: u64,
         wants: *const u64,
         wants_count: usize,
@@ -245,9 +248,17 @@ fn ask(
     u64::from(refusal)
 }
 
-pub fn split(fund: u64, wants: &[u64], payments: &mut [u64], report: &mut [u64]) -> u64 {
+pub fn split(
+    limits: Limits,
+    fund: u64,
+    wants: &[u64],
+    payments: &mut [u64],
+    report: &mut [u64],
+) -> u64 {
     let refusal = unsafe {
         pupcopper_split(
+            limits.owners,
+            limits.total,
             fund,
             wants.as_ptr(),
             wants.len(),
