@@ -56,29 +56,28 @@ called limits wants = split_refusal limits wants (length wants)
 abbrev pub municipal : Limits
 municipal = limits_of 16 100_000_000
 
--- 16 wants, one more than 16, one more than 64; and one want of the pool's total, of a cent more, of the hall's, of a cent more than that
-pub of_the_municipal_pool :
-    (called municipal (replicate 16 1) ∷ called municipal (replicate 17 1) ∷ called municipal (replicate 65 1) ∷ [] ≡ 0 ∷ 16 ∷ 4 ∷ [])
-    × (called municipal (100_000_000 ∷ [])
-    ∷ called municipal (100_000_001 ∷ [])
-    ∷ called municipal (4_000_000_000 ∷ [])
-    ∷ called municipal (4_000_000_001 ∷ [])
+-- the numbers at each pool's limits and one past: for 16, 17, 64 and 65 wants; for one want of the municipal pool's total, of a cent more, of
+-- the hall's, of a cent more than that
+unfoldable pub at_the_limits : Limits → List ℕ
+at_the_limits limits =
+    called limits (replicate 16 1)
+    ∷ called limits (replicate 17 1)
+    ∷ called limits (replicate 64 1)
+    ∷ called limits (replicate 65 1)
+    ∷ called limits (100_000_000 ∷ [])
+    ∷ called limits (100_000_001 ∷ [])
+    ∷ called limits (4_000_000_000 ∷ [])
+    ∷ called limits (4_000_000_001 ∷ [])
     ∷ []
-    ≡ 0 ∷ 17 ∷ 17 ∷ 11 ∷ [])
-unfolding called split_refusal first_refusal total
-of_the_municipal_pool = (refl, refl)
 
--- "and our own limits remain beside it": the same from the hall
-pub of_the_hall :
-    (called hall (replicate 16 1) ∷ called hall (replicate 17 1) ∷ called hall (replicate 65 1) ∷ [] ≡ 0 ∷ 0 ∷ 4 ∷ [])
-    × (called hall (100_000_000 ∷ [])
-    ∷ called hall (100_000_001 ∷ [])
-    ∷ called hall (4_000_000_000 ∷ [])
-    ∷ called hall (4_000_000_001 ∷ [])
-    ∷ []
-    ≡ 0 ∷ 0 ∷ 0 ∷ 11 ∷ [])
-unfolding called split_refusal first_refusal total
-of_the_hall = (refl, refl)
+pub of_the_municipal_pool : at_the_limits municipal ≡ 0 ∷ 16 ∷ 16 ∷ 4 ∷ 0 ∷ 17 ∷ 17 ∷ 11 ∷ []
+unfolding at_the_limits called split_refusal first_refusal total
+of_the_municipal_pool = refl
+
+-- "and our own limits remain beside it"
+pub of_the_hall : at_the_limits hall ≡ 0 ∷ 0 ∷ 0 ∷ 4 ∷ 0 ∷ 0 ∷ 0 ∷ 11 ∷ []
+unfolding at_the_limits called split_refusal first_refusal total
+of_the_hall = refl
 
 -- "right after 4": 17 wants of more than 4,000,000,000 are 16, and with limits that no caller may have all is 4: owners of 0 and of 65, a total
 -- of 0 and of 4,000,000,001
