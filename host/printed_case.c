@@ -5,13 +5,13 @@
 #include <inttypes.h>
 #include <stdio.h>
 
-enum { RIGHTS = 2, RIGHT_BYTES = 16, PRICES = 1024, HOURS = 2, OUT_OF_TURN = 3 };
+enum { YEAR = 2025, RIGHTS = 2, RIGHT_BYTES = 16, PRICES = 1024, HOURS = 2, OUT_OF_TURN = 3 };
 
 struct right {
     uint16_t owner, source, sink;
     uint8_t kind, class;  /* 0 obligation, 1 option; 0 peak, 1 off-peak, 2 all hours */
     uint32_t size;        /* tenths of a megawatt */
-    uint16_t first, last; /* days, 1 to 365 */
+    uint16_t first, last; /* days, 1 to 365 in the year settled */
 };
 
 /* What an hour is lent: its rights as the bytes of their records, its prices, and the amount collected. */
@@ -55,7 +55,7 @@ static void print_lines(char event, uint64_t number, const int64_t *lines) {
 }
 
 static uint8_t open_book(struct book *book) {
-    return pupcopper_open(book->counts, PUPCOPPER_COUNTS, book->shortfalls, PUPCOPPER_SHORTFALLS, book->surpluses,
+    return pupcopper_open(YEAR, book->counts, PUPCOPPER_COUNTS, book->shortfalls, PUPCOPPER_SHORTFALLS, book->surpluses,
                           PUPCOPPER_SURPLUSES);
 }
 

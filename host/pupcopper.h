@@ -2,13 +2,20 @@
 
    Every number and every length is allowed: a call refuses what it cannot settle, by a number, and never stops the host. A call gives
    its refusal number, 0 if it is accepted (README.md has the table); pupcopper_class, pupcopper_cents and pupcopper_sentence give
-   their value instead. A refused call writes nothing but its report.
+   their value instead. A refused call writes nothing but its report; only an opening refused with 15 writes a book all zeros, and only
+   where the slices have their words.
 
    A slice is lent as a pointer to its first element and its number of elements. The pointer is aligned and not null, also where there
    are none; what is written overlaps nothing else that is lent. Amounts are cents, a credit positive and a charge negative; prices are
    cents per megawatt hour.
 
-   A report, or a book, of another number of words than named below is refused with 4 before all else. A report that has its words is
+   An operating year is named by the year in which its June starts, 2025 to 2099; it ends on 31 May of the next. It has 365 days and
+   8,760 hours, or 366 days and 8,784 hours where the next year has a 29 February: days are 1 to 365 or 366, hour numbers 0 to 8,759 or
+   8,783. A year outside 2025 to 2099 is refused with 15 before all else, in a call that is given a year and in an event or a step on a
+   book of such a year.
+
+   After that a report, or a book, of another number of words than named below is refused with 4 before all else; in an event or a step
+   the 4 for counts of another number of words comes before 15, since they have no year to look at. A report that has its words is
    always written. In a refused call it is zeros, with two exceptions: the record number of 7 and 8 in an hour, a target call and a row
    call, which is that of the first record with that fault (7 names the first bad right, also where an unpriced node stands before it),
    and the next record number in a reader's step, which is always given. In an accepted one of these three calls the record number is 0.
@@ -24,14 +31,18 @@ extern "C" {
 #endif
 
 enum {
+    PUPCOPPER_FIRST_YEAR = 2025, /* the first operating year */
+    PUPCOPPER_LAST_YEAR = 2099,  /* the last one */
+    PUPCOPPER_MOST_DAYS = 366,   /* days of the longest year, and bytes of a day table that fits every year */
     PUPCOPPER_OWNERS = 64,      /* lines of an event or a target call */
-    PUPCOPPER_COUNTS = 3,       /* words of a book: hours settled, months closed, 1 if it is ended and else 0 */
+    PUPCOPPER_COUNTS = 4,       /* words of a book: hours settled, months closed, 1 if it is ended and else 0, the year */
     PUPCOPPER_SHORTFALLS = 128, /* words of a book: owner i's month shortfall at 2 * i, its year shortfall at 2 * i + 1 */
     PUPCOPPER_SURPLUSES = 2,    /* words of a book: the month surplus, the year surplus */
     PUPCOPPER_SETTLED = 3,      /* words of an event's report: the record number of 7 and 8, F (the fund), D (the sum of the wants) */
     PUPCOPPER_OUTCOME = 1,      /* words of a target call's and a row call's report: the record number of 7 and 8 */
     PUPCOPPER_ALLOCATION = 1,   /* words of a split's report: what is left of the fund */
     PUPCOPPER_HOUR = 3,         /* words of a calendar call's report: day, month, 1 in a peak hour and else 0 */
+    PUPCOPPER_TABLE = 1,        /* words of a day table's report: the number of days, 365 or 366 */
     PUPCOPPER_RIGHT = 8,        /* words of a read's report: owner, source, sink, kind, class, size, first day, last day */
     PUPCOPPER_STEP = 10,        /* words of a reader's report: those of a read's, the next record number, 1 if there was no record left
                                    to give and else 0 */
@@ -44,33 +55,43 @@ enum {
     PUPCOPPER_SENTENCE_ROOM = 112  /* bytes behind a place of the text that a sentence asks for */
 };
 
-/* Twice the month (0 June to 11 May), plus 1 in a peak hour; 255 for an hour number above 8,759. */
-uint8_t pupcopper_class(uint64_t hour);
+/* Twice the month (0 June to 11 May) of an hour of the year, plus 1 in a peak hour; 255 for an hour number above the year's last and for
+   a year outside 2025 to 2099. */
+uint8_t pupcopper_class(uint64_t year, uint64_t hour);
 
 /* Tenths of a cent to whole cents, halves away from zero. */
 int64_t pupcopper_cents(int64_t tenths);
 
-/* The day (1 to 365) and the month (0 to 11) of an hour, and whether it is peak; 3 for an hour number above 8,759. */
-uint8_t pupcopper_calendar(uint64_t hour, uint64_t *report, size_t report_words);
+/* The day (1 to 365 or 366) and the month (0 to 11) of an hour of the year, and whether it is peak; 3 for an hour number above the
+   year's last. */
+uint8_t pupcopper_calendar(uint64_t year, uint64_t hour, uint64_t *report, size_t report_words);
 
-/* The right of a record number, from 0; 4 if there is none, 7 if it is bad. */
-uint8_t pupcopper_read(const uint8_t *rights, size_t rights_bytes, uint64_t record, uint64_t *report, size_t report_words);
+/* Writes the day table of the year: entry d, from 0, is that of the day with d days before it, twice the month, plus 1 on a working day.
+   4 for a table that is shorter than the year's days. Of a longer one the entries past the year's days stay as they are, so that one of
+   PUPCOPPER_MOST_DAYS bytes fits every year; the report says how many days the year has. */
+uint8_t pupcopper_days(uint64_t year, uint8_t *table, size_t table_bytes, uint64_t *report, size_t report_words);
+
+/* The right of a record number, from 0, for the year, whose last day is the last that a right may name; 4 if there is none, 7 if it is
+   bad. */
+uint8_t pupcopper_read(uint64_t year, const uint8_t *rights, size_t rights_bytes, uint64_t record, uint64_t *report,
+                       size_t report_words);
 
 /* A reader's step from a record number, at first 0: what stands there, and the record number to go on with, which is one more after a
    good record and after a bad one, 7. Where no record is left the call is accepted, the last word is 1, and the number stays, as it
-   does after 4, a file of wrong length. */
-uint8_t pupcopper_next(const uint8_t *rights, size_t rights_bytes, uint64_t next, uint64_t *report, size_t report_words);
+   does after 4, a file of wrong length, and after 15, which is all that a year outside 2025 to 2099 gives. */
+uint8_t pupcopper_next(uint64_t year, const uint8_t *rights, size_t rights_bytes, uint64_t next, uint64_t *report,
+                       size_t report_words);
 
-/* Writes all 64 targets of an hour number: an owner's is the sum of the cents of its live rights, each right's rounded by itself, halves
-   away from zero. */
-uint8_t pupcopper_targets(const uint8_t *rights, size_t rights_bytes, const int32_t *prices, size_t prices_count, uint64_t hour,
-                          int64_t *lines, size_t lines_count, uint64_t *report, size_t report_words);
+/* Writes all 64 targets of an hour of the year: an owner's is the sum of the cents of its live rights, each right's rounded by itself,
+   halves away from zero. 3 for an hour number above the year's last. */
+uint8_t pupcopper_targets(uint64_t year, const uint8_t *rights, size_t rights_bytes, const int32_t *prices, size_t prices_count,
+                          uint64_t hour, int64_t *lines, size_t lines_count, uint64_t *report, size_t report_words);
 
-/* Writes the rows of an hour number: line i is the cents of record i, 0 where that right is not live. There are rights_bytes / 16 lines,
-   at most 4,096; another number is 4. In all else it is refused as the target call is, 3 before 4. The rows of an owner add up to its
-   target; an hour's line is what is paid of that. Neither call looks at a book or gives 9 or 10. */
-uint8_t pupcopper_rows(const uint8_t *rights, size_t rights_bytes, const int32_t *prices, size_t prices_count, uint64_t hour,
-                       int64_t *lines, size_t lines_count, uint64_t *report, size_t report_words);
+/* Writes the rows of an hour of the year: line i is the cents of record i, 0 where that right is not live. There are rights_bytes / 16
+   lines, at most 4,096; another number is 4. In all else it is refused as the target call is, 3 before 4. The rows of an owner add up to
+   its target; an hour's line is what is paid of that. Neither call looks at a book or gives 9 or 10. */
+uint8_t pupcopper_rows(uint64_t year, const uint8_t *rights, size_t rights_bytes, const int32_t *prices, size_t prices_count,
+                       uint64_t hour, int64_t *lines, size_t lines_count, uint64_t *report, size_t report_words);
 
 /* The proportional split of a fund over wants, within the limits of the caller's pool: at most `owners` wants, which come to at most
    `total` cents. `owners` is 1 to 64 and `total` 1 to 4,000,000,000; the hall's own limits are 64 and 4,000,000,000. The wants are any
@@ -104,16 +125,21 @@ uint8_t pupcopper_rows(const uint8_t *rights, size_t rights_bytes, const int32_t
 uint8_t pupcopper_split(size_t owners, uint64_t total, uint64_t fund, const uint64_t *wants, size_t wants_count, uint64_t *payments,
                         size_t payments_count, uint64_t *report, size_t report_words);
 
-/* A book crosses as three slices, which the host keeps from call to call. In an event a mark that is neither 0 nor 1, or a surplus
-   below 0, is a spoiled book, 1. */
+/* A book crosses as three slices, which the host keeps from call to call. It opens with its year and keeps it: month ends, the last day
+   and the last hour are those of that year. In an event and in a step 4 comes first for counts of another number of words, which have no
+   year to look at; then 15 for the year, their fourth word; then 4 for shortfalls or surpluses of another number of words; then 4 for a
+   report of another number of words; then 1, a spoiled book, for a mark that is neither 0 nor 1 or a surplus below 0; then what the call
+   itself refuses, lowest first. */
 
-/* Writes a fresh book, all zeros, over any words. */
-uint8_t pupcopper_open(uint64_t *counts, size_t counts_words, uint64_t *shortfalls, size_t shortfalls_words, int64_t *surpluses,
-                       size_t surpluses_words);
+/* Writes a fresh book of the year, all zeros but for the year, over any words. A year outside 2025 to 2099 is refused with 15, and the
+   book is written all zeros, the year included. 15 comes before 4, a slice of another number of words; where one has another number,
+   nothing is written, with 15 as with 4. */
+uint8_t pupcopper_open(uint64_t year, uint64_t *counts, size_t counts_words, uint64_t *shortfalls, size_t shortfalls_words,
+                       int64_t *surpluses, size_t surpluses_words);
 
 /* The three events. On an ended book each is 2. */
 
-/* Settles the next hour and writes its 64 lines; 3 while a month end is due, and after the 8,760th. */
+/* Settles the next hour and writes its 64 lines; 3 while a month end is due, and after the year's last. */
 uint8_t pupcopper_hour(uint64_t *counts, size_t counts_words, uint64_t *shortfalls, size_t shortfalls_words, int64_t *surpluses,
                        size_t surpluses_words, const uint8_t *rights, size_t rights_bytes, const int32_t *prices,
                        size_t prices_count, int64_t collected, int64_t *lines, size_t lines_count, int64_t *report,
@@ -134,21 +160,25 @@ uint8_t pupcopper_year_end(uint64_t *counts, size_t counts_words, uint64_t *shor
    is appended behind the end, and the other bytes stay as they are. Without the room named above a call does nothing, is accepted,
    and says so in its report; once the text is written out it can be made again with the end 0.
 
-   A report or a book of another number of words is 4 here too, and a mark that is neither 0 nor 1, or a surplus below 0, is 1, both
-   before the room is looked at. Then nothing is written but the report, if it has its words: the end that was given and else zeros. */
+   A report or a book of another number of words is refused with 4 here too, in a step a book of a year outside 2025 to 2099 with 15, and
+   a mark that is neither 0 nor 1, or a surplus below 0, with 1, in the order told above and before the room is looked at. Then nothing is
+   written but the report, if it has its words: the end that was given and else zeros. */
 
 /* One block: the amount collected (64 bits signed), then 1,024 prices (32 bits signed), low byte first. Settles the next hour, and
    after it the month end and the year end that are due, and appends `H`, `M` and `Y` lines as the program prints them. Gives the
    refusal that stops the run, 0 if it goes on. A refused event prints no line and leaves the book as it was; what the block settled
    before it stands. Its letter is that of its lines (72, 77, 89), its number the hours settled, the months closed, or 0. In 7 the
    record number is that of the first bad right, else it is 0. A block of another length than PUPCOPPER_BLOCK is an hour refused
-   with 4, on any book. */
+   with 4, on any book of a year from 2025 to 2099. Where the refusal is found in the words of the book or the report (4, 15, 1), no
+   event is named and the letter is 0: a host that prints a sentence for such a refusal passes the letter itself, 72, as 0 would name
+   the rights file. */
 uint8_t pupcopper_step(uint64_t *counts, size_t counts_words, uint64_t *shortfalls, size_t shortfalls_words, int64_t *surpluses,
                        size_t surpluses_words, const uint8_t *rights, size_t rights_bytes, const uint8_t *block,
                        size_t block_bytes, uint8_t *text, size_t text_bytes, size_t end, uint64_t *report,
                        size_t report_words);
 
-/* The last line of a statement: `F` and both surpluses where `refusal` is 0, else `R` and `refusal`. The book is only read. */
+/* The last line of a statement: `F` and both surpluses where `refusal` is 0, else `R` and `refusal`. The book is only read, and its year
+   is not looked at, so that a run whose step gave 15 can be closed. */
 uint8_t pupcopper_closing(const uint64_t *counts, size_t counts_words, const uint64_t *shortfalls, size_t shortfalls_words,
                           const int64_t *surpluses, size_t surpluses_words, uint8_t refusal, uint8_t *text, size_t text_bytes,
                           size_t end, uint64_t *report, size_t report_words);

@@ -1,11 +1,11 @@
-/* A host that shows members their rights one by one: it prints each record's row in hour 0, and what each owner's rows add up to, which
-   is its target. Or R and its number, if a call is refused. */
+/* A host that shows members their rights one by one: it prints each record's row in hour 0 of 2025, and what each owner's rows add up
+   to, which is its target. Or R and its number, if a call is refused. */
 #include "pupcopper.h"
 
 #include <inttypes.h>
 #include <stdio.h>
 
-enum { RECORDS = 4, RECORD_BYTES = 16, PRICES = 2 };
+enum { YEAR = 2025, RECORDS = 4, RECORD_BYTES = 16, PRICES = 2 };
 
 /* From node 0 to node 1, days 1 to 365 (109 + 1 * 256). Owner 7 has two obligations of 0.1 MW for all hours and one for peak hours; hour 0
    is off-peak. Owner 9 has one of 0.3 MW. */
@@ -22,9 +22,10 @@ static const int32_t prices[PRICES] = {0, 5};
 int main(void) {
     int64_t rows[RECORDS], targets[PUPCOPPER_OWNERS], sums[PUPCOPPER_OWNERS] = {0};
     uint64_t report[PUPCOPPER_OUTCOME];
-    uint8_t refusal = pupcopper_rows(rights, sizeof rights, prices, PRICES, 0, rows, RECORDS, report, PUPCOPPER_OUTCOME);
+    uint8_t refusal = pupcopper_rows(YEAR, rights, sizeof rights, prices, PRICES, 0, rows, RECORDS, report, PUPCOPPER_OUTCOME);
     if (refusal == 0) {
-        refusal = pupcopper_targets(rights, sizeof rights, prices, PRICES, 0, targets, PUPCOPPER_OWNERS, report, PUPCOPPER_OUTCOME);
+        refusal = pupcopper_targets(YEAR, rights, sizeof rights, prices, PRICES, 0, targets, PUPCOPPER_OWNERS, report,
+                                    PUPCOPPER_OUTCOME);
     }
     if (refusal != 0) {
         printf("R %d\n", refusal);

@@ -5,7 +5,7 @@
 
 #include <stdio.h>
 
-enum { RIGHTS_ROOM = 65537, WRONG_LENGTH = 4, NOT_WRITTEN = 2 };
+enum { YEAR = 2025, RIGHTS_ROOM = 65537, WRONG_LENGTH = 4, NOT_WRITTEN = 2 };
 
 /* The book, as the host keeps it from call to call. */
 struct book {
@@ -72,7 +72,8 @@ int main(void) {
     static uint8_t rights[RIGHTS_ROOM];
     size_t rights_bytes = read_rights(rights);
     struct book book;
-    pupcopper_open(book.counts, PUPCOPPER_COUNTS, book.shortfalls, PUPCOPPER_SHORTFALLS, book.surpluses, PUPCOPPER_SURPLUSES);
+    pupcopper_open(YEAR, book.counts, PUPCOPPER_COUNTS, book.shortfalls, PUPCOPPER_SHORTFALLS, book.surpluses,
+                   PUPCOPPER_SURPLUSES);
     struct stop stop = {.refusal = WRONG_LENGTH};
     if (rights_bytes < RIGHTS_ROOM) {
         stop = settle_blocks(&book, rights, rights_bytes);

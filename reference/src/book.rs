@@ -1,9 +1,9 @@
 //! The book and its events.
 
-use crate::calendar::{HOURS, MONTH_ENDS};
+use crate::calendar::{calendar_of, Calendar};
 use crate::refusal::{
-    lowest, ACCEPTED, BAD_RIGHT, CARRY_FULL, HOUR_TOO_LARGE, OUT_OF_TURN, SPOILED_BOOK,
-    UNPRICED_NODE, WILD_AMOUNT, WILD_PRICE, WRONG_LENGTH, YEAR_OVER,
+    lowest, ACCEPTED, BAD_RIGHT, CARRY_FULL, HOUR_TOO_LARGE, NO_SUCH_YEAR, OUT_OF_TURN,
+    SPOILED_BOOK, UNPRICED_NODE, WILD_AMOUNT, WILD_PRICE, WRONG_LENGTH, YEAR_OVER,
 };
 use crate::rights::{first_bad, first_unpriced, records};
 use crate::split::{split, sum, HALL};
@@ -18,9 +18,11 @@ pub const TOP_COLLECTED: i64 = 4_000_000_000_000;
 /// "positive targets, or charges, above 4,000,000,000 in total".
 pub const TOP_HOUR: u128 = 4_000_000_000;
 
-/// The state between events; "amounts in it are unsigned 64-bit cents".
+/// The state between events; "amounts in it are unsigned 64-bit cents". "A book
+/// opens with its year and keeps it"; the year may be any number.
 #[derive(Clone, Copy, Debug, PartialEq, Eq)]
 pub struct Book {
+    pub year: u64,
     pub hours: u64,
     pub months: u64,
     pub ended: bool,
@@ -28,6 +30,13 @@ pub struct Book {
     pub year_shortfalls: [u64; OWNERS],
     pub month_surplus: u64,
     pub year_surplus: u64,
+}
+
+/// What an opening gives.
+#[derive(Clone, Copy, Debug, PartialEq, Eq)]
+pub struct Opening {
+    pub refusal: u64,
+    pub book: Book,
 }
 
 /// "the refusal number (0 if accepted), a record number, F, D and the book".
@@ -86,21 +95,34 @@ fn added(one: [u64; OWNERS], other: [u64; OWNERS]) -> [u64; OWNERS] {
 }
 
 /// The number of hours at the end of a month that is not yet closed.
-fn next_month_end(months: u64) -> Option<u64> {
+fn next_month_end(months: u64, calendar: &Calendar) -> Option<u64> {
     let at = usize::try_from(months).ok()?;
-    MONTH_ENDS.get(at).copied()
+    calendar.month_ends.get(at).copied()
 }
 
 /// "the last closed month's end (0 if none)".
-fn last_month_end(months: u64) -> u64 {
+fn last_month_end(months: u64, calendar: &Calendar) -> u64 {
     let before = months.checked_sub(1);
-    before.and_then(next_month_end).unwrap_or(0)
+    let end = before.and_then(|month| next_month_end(month, calendar));
+    end.unwrap_or(0)
 }
 
 impl Book {
-    /// "all 0 when fresh".
-    pub fn fresh() -> Book {
+    /// "A book opens with its year"; 15 where that is outside: "opening a book gives
+    /// it too, with a book all 0, year included".
+    pub fn open(year: u64) -> Opening {
+        let (refusal, year) = match calendar_of(year) {
+            Some(_) => (ACCEPTED, year),
+            None => (NO_SUCH_YEAR, 0),
+        };
+        let book = Book::fresh(year);
+        Opening { refusal, book }
+    }
+
+    /// "all 0 when fresh", but for the year.
+    pub fn fresh(year: u64) -> Book {
         Book {
+            year,
             hours: 0,
             months: 0,
             ended: false,
@@ -121,20 +143,21 @@ impl Book {
 
     /// "hours not between the last closed month's end (0 if none) and the next
     /// one's, both included".
-    fn hours_off_months(&self) -> bool {
-        let last = last_month_end(self.months);
-        match next_month_end(self.months) {
+    fn hours_off_months(&self, calendar: &Calendar) -> bool {
+        let last = last_month_end(self.months, calendar);
+        match next_month_end(self.months, calendar) {
             Some(next) => self.hours < last || self.hours > next,
             None => false,
         }
     }
 
-    /// Refusal 1, clause by clause.
-    pub fn is_spoiled(&self) -> bool {
-        self.hours > HOURS
+    /// Refusal 1, clause by clause: "hours above 8,760" and so on, which "come from
+    /// that year".
+    fn is_spoiled(&self, calendar: &Calendar) -> bool {
+        self.hours > calendar.hours()
             || self.months > 12
-            || self.hours_off_months()
-            || (self.months == 12 && self.hours != HOURS)
+            || self.hours_off_months(calendar)
+            || (self.months == 12 && self.hours != calendar.hours())
             || (self.ended && self.months < 12)
             || self.all_shortfalls() > TOP_SHORTFALLS
             || self.surpluses() > u128::from(self.hours) * TOP_SURPLUS_PER_HOUR
@@ -143,7 +166,9 @@ impl Book {
     /// The hours stand at the end of the next month to close, on a book that is
     /// not ended.
     pub fn month_end_due(&self) -> bool {
-        next_month_end(self.months) == Some(self.hours) && !self.ended
+        let calendar = calendar_of(self.year);
+        let end = calendar.and_then(|calendar| next_month_end(self.months, calendar));
+        end == Some(self.hours) && !self.ended
     }
 
     /// All months are closed and the year is not.
@@ -165,17 +190,25 @@ impl Book {
 
     /// Refusals 1 to 8 of an hour, and the record number in 7 and 8: "Hour and
     /// target calls pass it on and state the same."
-    fn hour_input_refusal(&self, input: &HourInput, lines: &[i64]) -> (u64, u64) {
+    fn hour_input_refusal(
+        &self,
+        calendar: &Calendar,
+        input: &HourInput,
+        lines: &[i64],
+    ) -> (u64, u64) {
         let all = records(input.rights);
-        let bad = first_bad(&all);
+        let bad = first_bad(&all, calendar);
         let unpriced = first_unpriced(&all, input.prices.len());
         let wild_amount = input.collected < 0 || input.collected > TOP_COLLECTED;
         let wrong_length = has_wrong_length(input.rights, input.prices, lines);
         let refusal = lowest(&[
-            (SPOILED_BOOK, self.is_spoiled()),
+            (SPOILED_BOOK, self.is_spoiled(calendar)),
             (YEAR_OVER, self.ended),
-            // "hour while a month end is due or after 8,760"
-            (OUT_OF_TURN, self.month_end_due() || self.hours >= HOURS),
+            // "hour while a month end is due or after 8,760", the year's last
+            (
+                OUT_OF_TURN,
+                self.month_end_due() || self.hours >= calendar.hours(),
+            ),
             (WRONG_LENGTH, wrong_length),
             (WILD_PRICE, has_wild_price(input.prices)),
             (WILD_AMOUNT, wild_amount),
@@ -199,13 +232,17 @@ impl Book {
         ])
     }
 
-    /// The next hour.
+    /// The next hour. As in the other two events, 15 comes "when the year is outside
+    /// 2025 to 2099, before any other check".
     pub fn hour(self, input: HourInput, lines: &mut [i64]) -> EventResult {
-        let (refusal, record) = self.hour_input_refusal(&input, lines);
+        let Some(calendar) = calendar_of(self.year) else {
+            return self.refused(NO_SUCH_YEAR, 0);
+        };
+        let (refusal, record) = self.hour_input_refusal(calendar, &input, lines);
         if refusal != ACCEPTED {
             return self.refused(refusal, record);
         }
-        let targets = owner_targets(&records(input.rights), input.prices, self.hours);
+        let targets = owner_targets(&records(input.rights), input.prices, calendar, self.hours);
         let refusal = self.hour_amount_refusal(&targets, input.collected);
         if refusal != ACCEPTED {
             return self.refused(refusal, 0);
@@ -234,8 +271,11 @@ impl Book {
 
     /// The month end.
     pub fn month_end(self, lines: &mut [i64]) -> EventResult {
+        let Some(calendar) = calendar_of(self.year) else {
+            return self.refused(NO_SUCH_YEAR, 0);
+        };
         let refusal = lowest(&[
-            (SPOILED_BOOK, self.is_spoiled()),
+            (SPOILED_BOOK, self.is_spoiled(calendar)),
             (YEAR_OVER, self.ended),
             // "month end unless the hours stand at the next month's end"
             (OUT_OF_TURN, !self.month_end_due()),
@@ -261,8 +301,11 @@ impl Book {
 
     /// The year end.
     pub fn year_end(self, lines: &mut [i64]) -> EventResult {
+        let Some(calendar) = calendar_of(self.year) else {
+            return self.refused(NO_SUCH_YEAR, 0);
+        };
         let refusal = lowest(&[
-            (SPOILED_BOOK, self.is_spoiled()),
+            (SPOILED_BOOK, self.is_spoiled(calendar)),
             (YEAR_OVER, self.ended),
             // "year end before 12 months"
             (OUT_OF_TURN, self.months < 12),
@@ -332,28 +375,38 @@ mod tests {
     }
 
     fn at(hours: u64, months: u64) -> Book {
-        let mut book = Book::fresh();
-        book.hours = hours;
-        book.months = months;
-        book
+        at_in(2_025, hours, months)
+    }
+
+    fn at_in(year: u64, hours: u64, months: u64) -> Book {
+        Book {
+            hours,
+            months,
+            ..Book::fresh(year)
+        }
+    }
+
+    /// Of a book whose year is not outside.
+    fn is_spoiled(book: Book) -> bool {
+        book.is_spoiled(calendar_of(book.year).expect("a year from 2025 to 2099"))
     }
 
     #[test]
     fn spoiled_hours_and_months() {
-        assert!(!at(0, 0).is_spoiled());
-        assert!(!at(720, 0).is_spoiled());
-        assert!(at(721, 0).is_spoiled());
-        assert!(at(719, 1).is_spoiled());
-        assert!(!at(720, 1).is_spoiled());
-        assert!(!at(8_760, 11).is_spoiled());
-        assert!(!at(8_760, 12).is_spoiled());
-        assert!(at(8_759, 12).is_spoiled());
-        assert!(at(8_761, 12).is_spoiled());
-        assert!(at(8_760, 13).is_spoiled());
-        assert!(at(u64::MAX, u64::MAX).is_spoiled());
+        assert!(!is_spoiled(at(0, 0)));
+        assert!(!is_spoiled(at(720, 0)));
+        assert!(is_spoiled(at(721, 0)));
+        assert!(is_spoiled(at(719, 1)));
+        assert!(!is_spoiled(at(720, 1)));
+        assert!(!is_spoiled(at(8_760, 11)));
+        assert!(!is_spoiled(at(8_760, 12)));
+        assert!(is_spoiled(at(8_759, 12)));
+        assert!(is_spoiled(at(8_761, 12)));
+        assert!(is_spoiled(at(8_760, 13)));
+        assert!(is_spoiled(at(u64::MAX, u64::MAX)));
         let mut ended = at(8_760, 11);
         ended.ended = true;
-        assert!(ended.is_spoiled());
+        assert!(is_spoiled(ended));
     }
 
     #[test]
@@ -361,19 +414,19 @@ mod tests {
         let mut book = at(1, 0);
         book.month_shortfalls[0] = 3_999_999_999;
         book.year_shortfalls[63] = 1;
-        assert!(!book.is_spoiled());
+        assert!(!is_spoiled(book));
         book.year_shortfalls[63] = 2;
-        assert!(book.is_spoiled());
+        assert!(is_spoiled(book));
         book.year_shortfalls[63] = u64::MAX;
-        assert!(book.is_spoiled());
+        assert!(is_spoiled(book));
         let mut book = at(1, 0);
         book.month_surplus = 4_003_999_999_999;
         book.year_surplus = 1;
-        assert!(!book.is_spoiled());
+        assert!(!is_spoiled(book));
         book.year_surplus = 2;
-        assert!(book.is_spoiled());
+        assert!(is_spoiled(book));
         book.year_surplus = u64::MAX;
-        assert!(book.is_spoiled());
+        assert!(is_spoiled(book));
     }
 
     #[test]
@@ -458,5 +511,72 @@ mod tests {
         assert_eq!(lines[..4], [0, 1, 0, 0]);
         assert_eq!(result.book.year_shortfalls[..3], [0, 0, 1]);
         assert_eq!(result.book.year_surplus, 0);
+    }
+
+    /// February 2028 ends after 274 days, February 2100 after 273.
+    #[test]
+    fn month_ends_and_the_top_hour_come_from_the_year() {
+        let spoiled = |hours, months| {
+            [2_025, 2_027, 2_099].map(|year| is_spoiled(at_in(year, hours, months)))
+        };
+        assert_eq!(spoiled(6_552, 8), [false; 3]);
+        assert_eq!(spoiled(6_553, 8), [true, false, true]);
+        assert_eq!(spoiled(6_576, 8), [true, false, true]);
+        assert_eq!(spoiled(6_577, 8), [true; 3]);
+        assert_eq!(spoiled(6_552, 9), [false, true, false]);
+        assert_eq!(spoiled(6_576, 9), [false; 3]);
+        assert_eq!(spoiled(8_760, 12), [false, true, false]);
+        assert_eq!(spoiled(8_784, 11), [true, false, true]);
+        assert_eq!(spoiled(8_784, 12), [true, false, true]);
+        assert_eq!(spoiled(8_785, 12), [true; 3]);
+        let closed = |hours| {
+            let closed = |year| at_in(year, hours, 8).month_end(&mut [0; 64]).refusal;
+            [2_025, 2_027, 2_099].map(closed)
+        };
+        assert_eq!(closed(6_552), [0, 3, 0]);
+        assert_eq!(closed(6_576), [1, 0, 1]);
+        let hours = |number, months| {
+            [2_025, 2_027].map(|year| hour(at_in(year, number, months), 1, 0).refusal)
+        };
+        assert_eq!(hours(6_552, 8), [3, 0]);
+        assert_eq!(hours(8_760, 11), [3, 0]);
+        assert_eq!(hours(8_783, 11), [1, 0]);
+        assert_eq!(hours(8_784, 11), [1, 3]);
+    }
+
+    #[test]
+    fn opening() {
+        for year in [2_025, 2_050, 2_099] {
+            let Opening { refusal, book } = Book::open(year);
+            assert_eq!((refusal, book.year), (0, year));
+            assert_eq!(book, Book::fresh(year));
+        }
+        for year in [0, 1, 2_024, 2_100, u64::MAX] {
+            let Opening { refusal, book } = Book::open(year);
+            assert_eq!((refusal, book.year), (15, 0));
+            assert_eq!(book, Book::fresh(0));
+        }
+    }
+
+    /// Whatever else is wrong, and the book is handed back as it was.
+    #[test]
+    fn a_year_outside_comes_before_any_other_check() {
+        for year in [0, 2_024, 2_100, u64::MAX] {
+            let ended = Book {
+                ended: true,
+                ..at_in(year, 8_760, 12)
+            };
+            let spoiled = at_in(year, 9, 7);
+            for book in [at_in(year, 0, 0), at_in(year, 720, 0), ended, spoiled] {
+                let lines = &mut [7; 63];
+                let results = [
+                    hour(book, 500_001, -1),
+                    book.month_end(lines),
+                    book.year_end(lines),
+                ];
+                assert_eq!(results, [book.refused(15, 0); 3]);
+                assert_eq!(*lines, [7; 63]);
+            }
+        }
     }
 }

@@ -1,4 +1,4 @@
-//! A plain second calculation of the settlement of one operating year of
+//! A plain second calculation of the settlement of an operating year of
 //! point-to-point rights.
 
 // A remainder reads like the paper's "not a multiple of 16".
@@ -7,6 +7,7 @@
 // The rules, written from the scope paper and the delivered wishes alone.
 pub mod book;
 pub mod calendar;
+pub mod civil;
 pub mod program;
 pub mod record_words;
 pub mod refusal;

@@ -1,4 +1,5 @@
-//! Rights and hours for whole runs of the program, drawn from a seed.
+//! Rights and hours for whole runs of the program, drawn from a seed; months and
+//! days are those of the program's year.
 //!
 //! An odd seed gives a year with long funds over all, an even one a poor year;
 //! months 0, 2, 4 and so on are short and the others long, so that month ends
@@ -8,7 +9,7 @@ use std::fs::{create_dir_all, File};
 use std::io::{self, BufWriter, Write};
 use std::path::Path;
 
-use crate::calendar::month_of;
+use crate::calendar::{calendar_of, PROGRAM_YEAR};
 use crate::draws::Draws;
 use crate::rights::{encode, Right};
 use crate::target::MOST_PRICES;
@@ -52,7 +53,8 @@ fn draw_right(draws: &mut Draws) -> Right {
 /// The amount collected grows with the number of rights.
 fn draw_collected(draws: &mut Draws, year: &Year, hour: u64) -> i64 {
     let poor = year.seed % 2 == 0;
-    let short_month = month_of(hour) % 2 == 0;
+    let months = calendar_of(PROGRAM_YEAR).map_or(0, |calendar| calendar.months_ended(hour));
+    let short_month = months % 2 == 0;
     let most_per_right = match (poor, short_month) {
         (false, true) => 1_700,
         (false, false) => 2_200,

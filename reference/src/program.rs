@@ -4,6 +4,7 @@ use std::io::{self, Read, Write};
 use std::path::Path;
 
 use crate::book::Book;
+use crate::calendar::PROGRAM_YEAR;
 use crate::refusal::{ACCEPTED, WRONG_LENGTH};
 use crate::rights::LONGEST;
 use crate::sentence::Stopped;
@@ -52,7 +53,8 @@ pub fn run(
     output: &mut dyn Write,
 ) -> io::Result<Stopped> {
     let mut stopped = opening(rights);
-    let mut book = Book::fresh();
+    // "The program keeps 2025"
+    let mut book = Book::fresh(PROGRAM_YEAR);
     let mut block = [0; HOUR_BYTES];
     while stopped.goes_on() {
         let read = read_full(input, &mut block)?;

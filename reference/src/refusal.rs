@@ -1,5 +1,6 @@
-//! The refusal numbers. "Where several apply, the lowest number comes"; in a split,
-//! where a wish puts 16 "right after 4", the first one.
+//! The refusal numbers. "Where several apply, the lowest number comes", but for what
+//! the wishes say of the order: 15 comes "before any other check", and in a split,
+//! where 16 comes "right after 4", the first one comes.
 
 pub const ACCEPTED: u64 = 0;
 pub const SPOILED_BOOK: u64 = 1;
@@ -13,6 +14,7 @@ pub const UNPRICED_NODE: u64 = 8;
 pub const HOUR_TOO_LARGE: u64 = 9;
 pub const CARRY_FULL: u64 = 10;
 pub const WANT_TOO_LARGE: u64 = 11;
+pub const NO_SUCH_YEAR: u64 = 15;
 pub const TOO_MANY_WANTS: u64 = 16;
 pub const TOTAL_TOO_LARGE: u64 = 17;
 
@@ -46,6 +48,7 @@ pub fn word(refusal: u64) -> &'static str {
         HOUR_TOO_LARGE => "hour too large",
         CARRY_FULL => "carry full",
         WANT_TOO_LARGE => "want too large",
+        NO_SUCH_YEAR => "no such year",
         TOO_MANY_WANTS => "too many wants",
         TOTAL_TOO_LARGE => "total too large",
         _ => "not in the table",
@@ -64,12 +67,12 @@ mod tests {
         assert_eq!((lowest(&[]), first(&[])), (0, 0));
     }
 
-    /// 12 to 15 and 18 have none yet.
+    /// 12 to 14 and 18 have none yet.
     #[test]
     fn words_of_the_table() {
-        let words = [11, 12, 15, 16, 17, 18].map(word);
-        let none = "not in the table";
-        let [many, large] = ["too many wants", "total too large"];
-        assert_eq!(words, ["want too large", none, none, many, large, none]);
+        assert_eq!([12, 13, 14, 18].map(word), ["not in the table"; 4]);
+        let words = [11, 15, 16, 17].map(word);
+        let [want, year] = ["want too large", "no such year"];
+        assert_eq!(words, [want, year, "too many wants", "total too large"]);
     }
 }

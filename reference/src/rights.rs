@@ -1,7 +1,7 @@
 //! The rights file.
 
-use crate::calendar::{day_of, is_peak};
-use crate::refusal::{ACCEPTED, BAD_RIGHT, WRONG_LENGTH};
+use crate::calendar::{calendar_of, day_of, Calendar};
+use crate::refusal::{ACCEPTED, BAD_RIGHT, NO_SUCH_YEAR, WRONG_LENGTH};
 
 /// "Records of 16 bytes".
 pub const RECORD: usize = 16;
@@ -71,8 +71,8 @@ pub fn encode(right: &Right) -> [u8; RECORD] {
     record
 }
 
-/// "a field outside its values".
-pub fn is_bad(right: &Right) -> bool {
+/// "a field outside its values", of which "the top day" comes from the year.
+pub fn is_bad(right: &Right, calendar: &Calendar) -> bool {
     let good = right.owner <= 63
         && right.source <= 1_023
         && right.sink <= 1_023
@@ -82,7 +82,7 @@ pub fn is_bad(right: &Right) -> bool {
         && (1..=100_000).contains(&right.size)
         && 1 <= right.first
         && right.first <= right.last
-        && right.last <= 365;
+        && right.last <= calendar.days();
     !good
 }
 
@@ -103,8 +103,9 @@ pub fn records(file: &[u8]) -> Vec<Right> {
 
 /// The record number of 7, "a field outside its values": "the lowest one with
 /// that fault, all earlier records being free of it".
-pub fn first_bad(rights: &[Right]) -> Option<u64> {
-    rights.iter().position(is_bad).map(|at| at as u64)
+pub fn first_bad(rights: &[Right], calendar: &Calendar) -> Option<u64> {
+    let found = rights.iter().position(|right| is_bad(right, calendar));
+    found.map(|at| at as u64)
 }
 
 /// The record number of 8, "a node at or past the number of prices": also "the
@@ -114,17 +115,21 @@ pub fn first_unpriced(rights: &[Right], prices: usize) -> Option<u64> {
     found.map(|at| at as u64)
 }
 
-/// "A read by record number, from 0, gives the eight fields, or 4 or 7."
-pub fn read(file: &[u8], record: u64) -> Read {
+/// "A read by record number, from 0, gives the eight fields, or 4 or 7"; it is
+/// "given a year", and 15 comes "before any other check".
+pub fn read(year: u64, file: &[u8], record: u64) -> Read {
+    let Some(calendar) = calendar_of(year) else {
+        return refused(NO_SUCH_YEAR);
+    };
     let at = usize::try_from(record).unwrap_or(usize::MAX);
     match file.chunks_exact(RECORD).nth(at) {
-        Some(bytes) if !is_wrong_length(file) => answer(decode(bytes)),
+        Some(bytes) if !is_wrong_length(file) => answer(decode(bytes), calendar),
         _ => refused(WRONG_LENGTH),
     }
 }
 
-fn answer(right: Right) -> Read {
-    if is_bad(&right) {
+fn answer(right: Right, calendar: &Calendar) -> Read {
+    if is_bad(&right, calendar) {
         return refused(BAD_RIGHT);
     }
     Read {
@@ -151,6 +156,7 @@ pub enum Given {
 
 /// "a reader over the lent rights file gives one record after another".
 pub struct Reader<'a> {
+    pub year: u64,
     pub file: &'a [u8],
     pub at: u64,
 }
@@ -158,15 +164,18 @@ pub struct Reader<'a> {
 impl Reader<'_> {
     /// "gives 7 for a bad one and moves past it, and says there is none exactly
     /// when every record has been given. Over a file of wrong length it gives
-    /// only 4."
+    /// only 4." With a year outside "a reader then gives only 15".
     pub fn give(&mut self) -> Given {
+        if calendar_of(self.year).is_none() {
+            return Given::Refused(NO_SUCH_YEAR);
+        }
         if is_wrong_length(self.file) {
             return Given::Refused(WRONG_LENGTH);
         }
         if self.at >= (self.file.len() / RECORD) as u64 {
             return Given::Nothing;
         }
-        let read = read(self.file, self.at);
+        let read = read(self.year, self.file, self.at);
         self.at += 1;
         match read.refusal {
             ACCEPTED => Given::Record(read.right),
@@ -177,11 +186,11 @@ impl Reader<'_> {
 
 /// "A right is live in an hour if the day is from first to last and its class
 /// fits."
-pub fn is_live(right: &Right, hour: u64) -> bool {
+pub fn is_live(right: &Right, calendar: &Calendar, hour: u64) -> bool {
     let day = day_of(hour);
     let fits = match right.class {
-        0 => is_peak(hour),
-        1 => !is_peak(hour),
+        0 => calendar.is_peak(hour),
+        1 => !calendar.is_peak(hour),
         _ => true,
     };
     right.first <= day && day <= right.last && fits
@@ -193,9 +202,18 @@ mod tests {
 
     const GOOD: [u8; 16] = [1, 0, 2, 0, 255, 3, 1, 2, 160, 134, 1, 0, 1, 0, 109, 1];
 
+    fn calendar(year: u64) -> &'static Calendar {
+        calendar_of(year).expect("a year from 2025 to 2099")
+    }
+
+    fn reader(year: u64, file: &[u8]) -> Reader<'_> {
+        let at = 0;
+        Reader { year, file, at }
+    }
+
     #[test]
     fn fields_low_byte_first() {
-        let right = read(&GOOD, 0).right;
+        let right = read(2_025, &GOOD, 0).right;
         let expected = Right {
             owner: 1,
             source: 2,
@@ -208,14 +226,15 @@ mod tests {
         };
         assert_eq!(right, expected);
         assert_eq!(encode(&right), GOOD);
-        assert_eq!(read(&GOOD, 1), refused(4));
-        assert_eq!(read(&GOOD[..15], 0), refused(4));
-        assert_eq!(read(&[], 0), refused(4));
+        assert_eq!(read(2_025, &GOOD, 1), refused(4));
+        assert_eq!(read(2_025, &GOOD[..15], 0), refused(4));
+        assert_eq!(read(2_025, &[], 0), refused(4));
     }
 
     #[test]
     fn each_field_outside_its_values() {
         let good = decode(&GOOD);
+        let is_bad = |right: &Right| super::is_bad(right, calendar(2_025));
         assert!(!is_bad(&good));
         assert!(is_bad(&Right { owner: 64, ..good }));
         assert!(is_bad(&Right {
@@ -246,7 +265,10 @@ mod tests {
     /// With 1,023 prices, which is one too few for the sink of `GOOD`.
     #[test]
     fn the_first_record_with_each_fault() {
-        let first = |rights: &[Right]| (first_bad(rights), first_unpriced(rights, 1_023));
+        let first = |rights: &[Right]| {
+            let bad = first_bad(rights, calendar(2_025));
+            (bad, first_unpriced(rights, 1_023))
+        };
         let unpriced = decode(&GOOD);
         let good = Right {
             sink: 1_022,
@@ -272,11 +294,50 @@ mod tests {
         let mut file = Vec::from(GOOD);
         file.extend([0; 16]);
         file.extend(GOOD);
-        let mut reader = Reader { file: &file, at: 0 };
+        let mut reader = reader(2_025, &file);
         assert_eq!(reader.give(), Given::Record(decode(&GOOD)));
         assert_eq!(reader.give(), Given::Refused(7));
         assert_eq!(reader.give(), Given::Record(decode(&GOOD)));
         assert_eq!(reader.give(), Given::Nothing);
         assert_eq!(reader.give(), Given::Nothing);
+    }
+
+    #[test]
+    fn the_top_day_comes_from_the_year() {
+        let right = decode(&GOOD);
+        let refusals = |year| {
+            let file = |last| encode(&Right { last, ..right });
+            [365, 366, 367].map(|last| read(year, &file(last), 0).refusal)
+        };
+        assert_eq!(refusals(2_025), [0, 7, 7]);
+        assert_eq!(refusals(2_027), [0, 0, 7]);
+        assert_eq!(refusals(2_098), [0, 7, 7]);
+        assert_eq!(refusals(2_099), [0, 7, 7]);
+        assert_eq!([2_024, 2_100, u64::MAX].map(refusals), [[15; 3]; 3]);
+    }
+
+    #[test]
+    fn a_reader_with_a_year_outside_gives_only_15() {
+        for file in [&[][..], &GOOD, &GOOD[1..], &[0; 65_552]] {
+            let mut reader = reader(2_024, file);
+            assert_eq!([(); 3].map(|()| reader.give()), [Given::Refused(15); 3]);
+            assert_eq!(reader.at, 0);
+            assert_eq!(read(2_024, file, 0), refused(15));
+        }
+    }
+
+    /// 1 June 2027 is a Tuesday, where 1 June 2025 is a Sunday.
+    #[test]
+    fn a_class_fits_by_the_year() {
+        let peak = Right {
+            class: 0,
+            ..decode(&GOOD)
+        };
+        assert!(!is_live(&peak, calendar(2_025), 6));
+        assert!(is_live(&peak, calendar(2_027), 6));
+        let all = Right { class: 2, ..peak };
+        let last = Right { last: 366, ..all };
+        assert!(!is_live(&all, calendar(2_027), 8_783));
+        assert!(is_live(&last, calendar(2_027), 8_783));
     }
 }

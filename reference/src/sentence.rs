@@ -78,6 +78,8 @@ mod tests {
         assert_eq!(file, "Rights file is refused: 4, wrong length.\n");
         let other = sentence(72, 0, 12, 5);
         assert_eq!(other, "Hour 0 is refused: 12, not in the table.\n");
+        let year = sentence(72, 0, 15, 5);
+        assert_eq!(year, "Hour 0 is refused: 15, no such year.\n");
         let many = sentence(72, 0, 16, 5);
         assert_eq!(many, "Hour 0 is refused: 16, too many wants.\n");
         let large = sentence(77, 3, 17, 5);

@@ -1,7 +1,8 @@
 //! What the program does with one block of its input, and its last line.
 
 use crate::book::{Book, EventResult, HourInput};
-use crate::refusal::{ACCEPTED, WRONG_LENGTH};
+use crate::calendar::calendar_of;
+use crate::refusal::{first, ACCEPTED, NO_SUCH_YEAR, WRONG_LENGTH};
 use crate::sentence::{Stopped, HOUR, MONTH_END, YEAR_END};
 use crate::target::{MOST_PRICES, OWNERS};
 
@@ -58,9 +59,14 @@ impl Step {
 
     fn settle_hour(&mut self, rights: &[u8], block: &[u8]) {
         let number = self.book.hours;
-        if block.len() != HOUR_BYTES {
+        let refusal = first(&[
+            // "before any other check"
+            (NO_SUCH_YEAR, calendar_of(self.book.year).is_none()),
             // "so does a broken last hour, with number 4"
-            self.stop(HOUR, number, WRONG_LENGTH, 0);
+            (WRONG_LENGTH, block.len() != HOUR_BYTES),
+        ]);
+        if refusal != ACCEPTED {
+            self.stop(HOUR, number, refusal, 0);
             return;
         }
         let (collected, prices) = decode_hour(block);
@@ -123,7 +129,7 @@ mod tests {
 
     /// The last hour of the year, in which owner 5 wants 7 and 4 are collected.
     fn last_hour() -> (Book, Vec<u8>) {
-        let mut book = Book::fresh();
+        let mut book = Book::fresh(2_025);
         (book.hours, book.months) = (8_759, 11);
         (book.month_surplus, book.year_surplus) = (2, 9);
         let mut block = Vec::from(4i64.to_le_bytes());
@@ -157,10 +163,15 @@ mod tests {
             record: 1,
         };
         assert_eq!(refused.stopped, stopped);
-        // A block of wrong length is no hour, so its book is not looked at.
+        // A block of wrong length is no hour, so of its book just the year is looked at.
         book.hours = u64::MAX;
         let broken = step(book, &RIGHT, &block[1..]).stopped;
         assert_eq!((broken.number, broken.refusal), (u64::MAX, 4));
+        let outside = Book {
+            year: 2_024,
+            ..book
+        };
+        assert_eq!(step(outside, &RIGHT, &block[1..]).stopped.refusal, 15);
         assert_eq!(step(book, &RIGHT, &block).stopped.refusal, 1);
     }
 }

@@ -2,9 +2,9 @@
 //! has them, "Cents per right": it "replaces the one rounding per owner" of the
 //! scope paper.
 
-use crate::calendar::HOURS;
+use crate::calendar::{calendar_of, Calendar};
 use crate::refusal::{
-    lowest, ACCEPTED, BAD_RIGHT, OUT_OF_TURN, UNPRICED_NODE, WILD_PRICE, WRONG_LENGTH,
+    lowest, ACCEPTED, BAD_RIGHT, NO_SUCH_YEAR, OUT_OF_TURN, UNPRICED_NODE, WILD_PRICE, WRONG_LENGTH,
 };
 use crate::rights::{first_bad, first_unpriced, is_live, is_wrong_length, records, Right};
 
@@ -80,36 +80,56 @@ fn cents(right: &Right, prices: &[i32]) -> i64 {
 }
 
 /// "each right on its own row": its cents, 0 where it is not live.
-fn row(right: &Right, prices: &[i32], hour: u64) -> i64 {
-    if is_live(right, hour) {
+fn row(right: &Right, prices: &[i32], calendar: &Calendar, hour: u64) -> i64 {
+    if is_live(right, calendar, hour) {
         cents(right, prices)
     } else {
         0
     }
 }
 
-/// "an owner's target is the sum of these cents", those of its live rights.
-fn owner_target(rights: &[Right], prices: &[i32], hour: u64, owner: u64) -> i64 {
-    let held = rights.iter().filter(|right| right.owner == owner);
-    let rows = held.map(|right| i128::from(row(right, prices, hour)));
-    // Of good rights at most 4,096 times 10,000,000,000 cents: they fit 64 bits.
-    i64::try_from(rows.sum::<i128>()).unwrap_or(0)
+/// All 64 targets of good rights and prices: "an owner's target is the sum of these
+/// cents", those of its live rights.
+pub fn owner_targets(
+    rights: &[Right],
+    prices: &[i32],
+    calendar: &Calendar,
+    hour: u64,
+) -> [i64; OWNERS] {
+    std::array::from_fn(|owner| {
+        let held = rights.iter().filter(|right| right.owner == owner as u64);
+        let rows = held.map(|right| i128::from(row(right, prices, calendar, hour)));
+        // Of good rights at most 4,096 times 10,000,000,000 cents: they fit 64 bits.
+        i64::try_from(rows.sum::<i128>()).unwrap_or(0)
+    })
 }
 
-/// All 64 targets of good rights and prices.
-pub fn owner_targets(rights: &[Right], prices: &[i32], hour: u64) -> [i64; OWNERS] {
-    std::array::from_fn(|owner| owner_target(rights, prices, hour, owner as u64))
+/// What a target call and a row call are lent to read. They are "given a year".
+#[derive(Clone, Copy)]
+pub struct Asked<'a> {
+    pub year: u64,
+    pub rights: &'a [u8],
+    pub prices: &'a [i32],
+    pub hour: u64,
 }
 
-/// The refusal of a target call or a row call, which differ only in what a wrong
-/// length is, and the record number in 7 and 8: "Hour and target calls pass it on
-/// and state the same."
-fn target_refusal(rights: &[u8], prices: &[i32], hour: u64, wrong_length: bool) -> TargetResult {
-    let all = records(rights);
-    let bad = first_bad(&all);
+/// "15 when the year is outside 2025 to 2099, before any other check".
+const OUTSIDE: TargetResult = TargetResult {
+    refusal: NO_SUCH_YEAR,
+    record: 0,
+};
+
+/// The refusal of a target call or a row call in a year, which differ only in what
+/// a wrong length is, and the record number in 7 and 8: "Hour and target calls pass
+/// it on and state the same." In 3 and 7 "the top day and the top hour .. come from
+/// that year".
+fn target_refusal(asked: &Asked, calendar: &Calendar, wrong_length: bool) -> TargetResult {
+    let prices = asked.prices;
+    let all = records(asked.rights);
+    let bad = first_bad(&all, calendar);
     let unpriced = first_unpriced(&all, prices.len());
     let refusal = lowest(&[
-        (OUT_OF_TURN, hour >= HOURS),
+        (OUT_OF_TURN, asked.hour >= calendar.hours()),
         (WRONG_LENGTH, wrong_length),
         (WILD_PRICE, has_wild_price(prices)),
         (BAD_RIGHT, bad.is_some()),
@@ -132,11 +152,15 @@ pub fn faulty_record(refusal: u64, bad: Option<u64>, unpriced: Option<u64>) -> u
 
 /// "A target call takes rights, prices, an hour number and 64 lines, and writes
 /// all 64 targets; it never gives 9."
-pub fn targets(rights: &[u8], prices: &[i32], hour: u64, lines: &mut [i64]) -> TargetResult {
-    let wrong_length = has_wrong_length(rights, prices, lines);
-    let result = target_refusal(rights, prices, hour, wrong_length);
+pub fn targets(asked: &Asked, lines: &mut [i64]) -> TargetResult {
+    let Some(calendar) = calendar_of(asked.year) else {
+        return OUTSIDE;
+    };
+    let wrong_length = has_wrong_length(asked.rights, asked.prices, lines);
+    let result = target_refusal(asked, calendar, wrong_length);
     if result.refusal == ACCEPTED {
-        let targets = owner_targets(&records(rights), prices, hour);
+        let rights = records(asked.rights);
+        let targets = owner_targets(&rights, asked.prices, calendar, asked.hour);
         lines.copy_from_slice(&targets);
     }
     result
@@ -144,12 +168,15 @@ pub fn targets(rights: &[u8], prices: &[i32], hour: u64, lines: &mut [i64]) -> T
 
 /// A row call takes rights, prices, an hour number and a line for each record,
 /// and writes each record's cents, 0 where the right is not live.
-pub fn rows(rights: &[u8], prices: &[i32], hour: u64, lines: &mut [i64]) -> TargetResult {
-    let wrong_length = has_wrong_rows(rights, prices, lines);
-    let result = target_refusal(rights, prices, hour, wrong_length);
+pub fn rows(asked: &Asked, lines: &mut [i64]) -> TargetResult {
+    let Some(calendar) = calendar_of(asked.year) else {
+        return OUTSIDE;
+    };
+    let wrong_length = has_wrong_rows(asked.rights, asked.prices, lines);
+    let result = target_refusal(asked, calendar, wrong_length);
     if result.refusal == ACCEPTED {
-        for (line, right) in lines.iter_mut().zip(records(rights)) {
-            *line = row(&right, prices, hour);
+        for (line, right) in lines.iter_mut().zip(records(asked.rights)) {
+            *line = row(&right, asked.prices, calendar, asked.hour);
         }
     }
     result
@@ -188,17 +215,27 @@ mod tests {
         }
     }
 
+    /// In the year 2025.
+    fn asked<'a>(rights: &'a [u8], prices: &'a [i32], hour: u64) -> Asked<'a> {
+        Asked {
+            year: 2_025,
+            rights,
+            prices,
+            hour,
+        }
+    }
+
     /// The rows of a call that is accepted.
     fn rows_of(file: &[u8], prices: &[i32], hour: u64) -> Vec<i64> {
         let mut lines = vec![7; file.len() / 16];
-        assert_eq!(rows(file, prices, hour, &mut lines).refusal, 0);
+        assert_eq!(rows(&asked(file, prices, hour), &mut lines).refusal, 0);
         lines
     }
 
     /// The targets of a call that is accepted.
     fn targets_of(file: &[u8], prices: &[i32], hour: u64) -> [i64; 64] {
         let mut lines = [7; 64];
-        assert_eq!(targets(file, prices, hour, &mut lines).refusal, 0);
+        assert_eq!(targets(&asked(file, prices, hour), &mut lines).refusal, 0);
         lines
     }
 
@@ -242,9 +279,9 @@ mod tests {
     /// these records; a row call gives the same.
     fn result(records: &[[u8; 16]], price: i32, hour: u64) -> (u64, u64) {
         let (file, prices) = (records.concat(), [0, price]);
-        let result = targets(&file, &prices, hour, &mut [0; 64]);
-        let lines = &mut vec![0; records.len()];
-        assert_eq!(rows(&file, &prices, hour, lines), result);
+        let asked = asked(&file, &prices, hour);
+        let result = targets(&asked, &mut [0; 64]);
+        assert_eq!(rows(&asked, &mut vec![0; records.len()]), result);
         (result.refusal, result.record)
     }
 
@@ -270,15 +307,17 @@ mod tests {
 
     #[test]
     fn refused_lines_stay_untouched() {
+        let refusal = |prices: &[i32], hour, lines: &mut [i64]| {
+            targets(&asked(&[], prices, hour), lines).refusal
+        };
         let mut lines = [7; 64];
-        let result = targets(&[], &[0], 8_760, &mut lines);
-        assert_eq!(result.refusal, 3);
+        assert_eq!(refusal(&[0], 8_760, &mut lines), 3);
         assert_eq!(lines, [7; 64]);
-        assert_eq!(targets(&[], &[0], 8_759, &mut lines).refusal, 0);
+        assert_eq!(refusal(&[0], 8_759, &mut lines), 0);
         assert_eq!(lines, [0; 64]);
-        assert_eq!(targets(&[], &[], 0, &mut lines).refusal, 4);
-        assert_eq!(targets(&[], &[500_001], 0, &mut lines).refusal, 5);
-        assert_eq!(targets(&[], &[0], 0, &mut lines[..63]).refusal, 4);
+        assert_eq!(refusal(&[], 0, &mut lines), 4);
+        assert_eq!(refusal(&[500_001], 0, &mut lines), 5);
+        assert_eq!(refusal(&[0], 0, &mut lines[..63]), 4);
     }
 
     #[test]
@@ -286,7 +325,7 @@ mod tests {
         let mut lines = [7; 2];
         let file = [RIGHT, RIGHT].concat();
         let mut refusal = |file: &[u8], prices: &[i32], hour| {
-            let result = rows(file, prices, hour, &mut lines);
+            let result = rows(&asked(file, prices, hour), &mut lines);
             assert_eq!(lines == [7; 2], result.refusal != 0);
             result.refusal
         };
@@ -297,5 +336,49 @@ mod tests {
         assert_eq!(refusal(&[RIGHT, [0; 16]].concat(), &[0, 1], 0), 7);
         assert_eq!(refusal(&file, &[0], 0), 8);
         assert_eq!(refusal(&file, &[0, 1], 8_759), 0);
+    }
+
+    /// The refusals of a target call and of a row call.
+    fn refusals(asked: Asked, records: usize) -> [u64; 2] {
+        let mut lines = [7; 64];
+        let result = targets(&asked, &mut lines);
+        assert_eq!(lines == [7; 64], result.refusal != 0);
+        let mut lines = vec![7; records];
+        [result.refusal, rows(&asked, &mut lines).refusal]
+    }
+
+    #[test]
+    fn the_top_hour_and_the_top_day_come_from_the_year() {
+        let last = encode(&Right {
+            last: 366,
+            ..decode(&RIGHT)
+        });
+        let refusals = |year, hour, rights: &[u8; 16]| {
+            let asked = asked(rights, &[0, 1], hour);
+            refusals(Asked { year, ..asked }, 1)
+        };
+        assert_eq!(refusals(2_025, 8_759, &RIGHT), [0; 2]);
+        assert_eq!(refusals(2_025, 8_760, &RIGHT), [3; 2]);
+        assert_eq!(refusals(2_025, 8_759, &last), [7; 2]);
+        assert_eq!(refusals(2_027, 8_783, &RIGHT), [0; 2]);
+        assert_eq!(refusals(2_027, 8_783, &last), [0; 2]);
+        assert_eq!(refusals(2_027, 8_784, &last), [3; 2]);
+        assert_eq!(refusals(2_099, 8_759, &last), [7; 2]);
+    }
+
+    #[test]
+    fn a_year_outside_comes_before_any_other_check() {
+        for year in [0, 2_024, 2_100, u64::MAX] {
+            let refusals = |rights: &[u8], price, hour, records| {
+                let asked = asked(rights, price, hour);
+                refusals(Asked { year, ..asked }, records)
+            };
+            assert_eq!(refusals(&RIGHT, &[0, 1], 0, 1), [15; 2]);
+            assert_eq!(refusals(&RIGHT, &[0, 1], u64::MAX, 1), [15; 2]);
+            assert_eq!(refusals(&RIGHT[1..], &[], 0, 2), [15; 2]);
+            assert_eq!(refusals(&RIGHT, &[0, 500_001], 0, 1), [15; 2]);
+            assert_eq!(refusals(&[0; 16], &[0, 1], 0, 1), [15; 2]);
+            assert_eq!(refusals(&RIGHT, &[0], 0, 1), [15; 2]);
+        }
     }
 }

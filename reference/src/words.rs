@@ -2,16 +2,17 @@
 //! for each call. The phrases are those of `host/pupcopper.h`.
 
 use crate::book::{Book, EventResult, HourInput};
-use crate::calendar::place;
-use crate::refusal::{ACCEPTED, SPOILED_BOOK, WRONG_LENGTH};
+use crate::calendar::{calendar_of, day_table, place};
+use crate::refusal::{first, ACCEPTED, NO_SUCH_YEAR, SPOILED_BOOK, WRONG_LENGTH};
 use crate::rights::{self, Given, Reader, Right};
 use crate::sentence::Stopped;
 use crate::split::{self, Limits};
 use crate::step::{last_line, step};
-use crate::target;
+use crate::target::{self, Asked};
 
-/// "words of a book: hours settled, months closed, 1 if it is ended and else 0".
-pub const COUNTS: usize = 3;
+/// "words of a book: hours settled, months closed, 1 if it is ended and else 0, the
+/// year".
+pub const COUNTS: usize = 4;
 /// "owner i's month shortfall at 2 * i, its year shortfall at 2 * i + 1".
 pub const SHORTFALLS: usize = 128;
 /// "words of a book: the month surplus, the year surplus".
@@ -26,6 +27,8 @@ pub const OUTCOME: usize = 1;
 pub const ALLOCATION: usize = 1;
 /// "words of a calendar call's report: day, month, 1 in a peak hour and else 0".
 pub const HOUR: usize = 3;
+/// "words of a day table's report: the number of days, 365 or 366".
+pub const TABLE: usize = 1;
 /// "words of a read's report: owner, source, sink, kind, class, size, first
 /// day, last day".
 pub const RIGHT: usize = 8;
@@ -87,7 +90,7 @@ fn signed(cents: u64) -> i64 {
 }
 
 pub fn counts_of(book: &Book) -> [u64; COUNTS] {
-    [book.hours, book.months, u64::from(book.ended)]
+    [book.hours, book.months, u64::from(book.ended), book.year]
 }
 
 pub fn shortfalls_of(book: &Book) -> [u64; SHORTFALLS] {
@@ -102,15 +105,30 @@ pub fn surpluses_of(book: &Book) -> [i64; SURPLUSES] {
 }
 
 impl BookWords<'_> {
-    /// "a book, of another number of words".
+    /// "a book of another number of words".
     fn wrong_number(&self) -> bool {
         self.counts.len() != COUNTS
             || self.shortfalls.len() != SHORTFALLS
             || self.surpluses.len() != SURPLUSES
     }
 
-    /// "a mark that is neither 0 nor 1, or a surplus below 0, is a spoiled book,
-    /// 1".
+    /// What is looked at before the call itself: "In an event and in a step 4 comes
+    /// first for counts of another number of words, which have no year to look at; then
+    /// 15 for the year, their fourth word; then 4 for shortfalls or surpluses of another
+    /// number of words; then 4 for a report of another number of words; then 1".
+    fn refusal(&self, wrong_report: bool) -> u64 {
+        let [_, _, _, year] = *self.counts else {
+            return WRONG_LENGTH;
+        };
+        first(&[
+            (NO_SUCH_YEAR, is_outside(year)),
+            (WRONG_LENGTH, self.wrong_number()),
+            (WRONG_LENGTH, wrong_report),
+            (SPOILED_BOOK, self.spoiled()),
+        ])
+    }
+
+    /// "1, a spoiled book, for a mark that is neither 0 nor 1 or a surplus below 0".
     fn spoiled(&self) -> bool {
         self.counts[2] > 1 || self.surpluses.iter().any(|surplus| *surplus < 0)
     }
@@ -121,6 +139,7 @@ impl BookWords<'_> {
             hours: self.counts[0],
             months: self.counts[1],
             ended: self.counts[2] == 1,
+            year: self.counts[3],
             month_shortfalls: std::array::from_fn(|owner| self.shortfalls[2 * owner]),
             year_shortfalls: std::array::from_fn(|owner| self.shortfalls[2 * owner + 1]),
             month_surplus: self.surpluses[0].unsigned_abs(),
@@ -134,26 +153,29 @@ impl BookWords<'_> {
         self.surpluses.copy_from_slice(&surpluses_of(book));
     }
 
-    /// "Writes a fresh book, all zeros, over any words."
-    pub fn open(&mut self) -> u64 {
-        if self.wrong_number() {
-            return WRONG_LENGTH;
+    /// "Writes a fresh book of the year, all zeros but for the year, over any words. A
+    /// year outside 2025 to 2099 is refused with 15, and the book is written all zeros,
+    /// the year included. 15 comes before 4, a slice of another number of words; where
+    /// one has another number, nothing is written, with 15 as with 4."
+    pub fn open(&mut self, year: u64) -> u64 {
+        let opening = Book::open(year);
+        let wrong_number = self.wrong_number();
+        if !wrong_number {
+            self.write(&opening.book);
         }
-        self.write(&Book::fresh());
-        ACCEPTED
+        match opening.refusal {
+            ACCEPTED if wrong_number => WRONG_LENGTH,
+            refusal => refusal,
+        }
     }
 
     /// An event on the book that the words stand for. "A refused call writes
     /// nothing but its report." In 7 and 8 that has the paper's record number,
     /// "the lowest one with that fault".
     pub fn settle(&mut self, event: Event, lines: &mut [i64], report: &mut [i64]) -> u64 {
-        // "A report, or a book, of another number of words than named below is
-        // refused with 4 before all else."
-        if self.wrong_number() || report.len() != SETTLED {
-            return refused(WRONG_LENGTH, report);
-        }
-        if self.spoiled() {
-            return refused(SPOILED_BOOK, report);
+        let refusal = self.refusal(report.len() != SETTLED);
+        if refusal != ACCEPTED {
+            return refused(refusal, report);
         }
         let result = run(event, self.book(), lines);
         let words = [result.record, result.fund, result.wants];
@@ -179,11 +201,9 @@ impl BookWords<'_> {
         if report.len() == STEPPED {
             report.copy_from_slice(&unmoved);
         }
-        if self.wrong_number() || report.len() != STEPPED {
-            return WRONG_LENGTH;
-        }
-        if self.spoiled() {
-            return SPOILED_BOOK;
+        let refusal = self.refusal(report.len() != STEPPED);
+        if refusal != ACCEPTED {
+            return refusal;
         }
         if text.lacks(STEP_ROOM) {
             report[0] = 1;
@@ -202,7 +222,8 @@ impl BookWords<'_> {
         refusal
     }
 
-    /// A closing: "The last line of a statement .. The book is only read."
+    /// A closing: "The last line of a statement .. The book is only read", and its
+    /// year is not looked at.
     pub fn closing(&self, refusal: u8, mut text: LentText, report: &mut [u64]) -> u64 {
         let unmoved = [0, text.end];
         if report.len() == CLOSED {
@@ -250,6 +271,25 @@ fn refused(refusal: u64, report: &mut [i64]) -> u64 {
     refusal
 }
 
+/// "the year is outside 2025 to 2099".
+fn is_outside(year: u64) -> bool {
+    calendar_of(year).is_none()
+}
+
+/// As below, for a call that is given a year: "A year outside 2025 to 2099 is refused
+/// with 15 before all else". Where the report has its words, the call gives that 15
+/// itself.
+fn reported_in<const WORDS: usize>(
+    year: u64,
+    report: &mut [u64],
+    call: impl FnOnce() -> (u64, [u64; WORDS]),
+) -> u64 {
+    if is_outside(year) && report.len() != WORDS {
+        return NO_SUCH_YEAR;
+    }
+    reported(report, call)
+}
+
 /// Writes a report that has the number of words named; else 4.
 fn reported<const WORDS: usize>(
     report: &mut [u64],
@@ -263,13 +303,21 @@ fn reported<const WORDS: usize>(
     refusal
 }
 
-/// "The day (1 to 365) and the month (0 to 11) of an hour, and whether it is
-/// peak".
-pub fn calendar(hour: u64, report: &mut [u64]) -> u64 {
-    reported::<HOUR>(report, || {
-        let place = place(hour);
+/// "The day (1 to 365 or 366) and the month (0 to 11) of an hour of the year, and
+/// whether it is peak".
+pub fn calendar(year: u64, hour: u64, report: &mut [u64]) -> u64 {
+    reported_in::<HOUR>(year, report, || {
+        let place = place(year, hour);
         let words = [place.day, place.month, u64::from(place.peak)];
         (place.refusal, words)
+    })
+}
+
+/// "Writes the day table of the year".
+pub fn days(year: u64, table: &mut [u8], report: &mut [u64]) -> u64 {
+    reported_in::<TABLE>(year, report, || {
+        let result = day_table(year, table);
+        (result.refusal, [result.days])
     })
 }
 
@@ -287,9 +335,9 @@ pub fn right_words(right: &Right) -> [u64; RIGHT] {
 }
 
 /// "The right of a record number, from 0".
-pub fn read(file: &[u8], record: u64, report: &mut [u64]) -> u64 {
-    reported::<RIGHT>(report, || {
-        let read = rights::read(file, record);
+pub fn read(year: u64, file: &[u8], record: u64, report: &mut [u64]) -> u64 {
+    reported_in::<RIGHT>(year, report, || {
+        let read = rights::read(year, file, record);
         (read.refusal, right_words(&read.right))
     })
 }
@@ -297,9 +345,10 @@ pub fn read(file: &[u8], record: u64, report: &mut [u64]) -> u64 {
 /// "A reader's step from a record number, at first 0: what stands there, and the
 /// record number to go on with". The fields are zeros where no record is given;
 /// "the next record number in a reader's step .. is always given".
-pub fn next(file: &[u8], next: u64, report: &mut [u64]) -> u64 {
-    reported::<STEP>(report, || {
-        let mut reader = Reader { file, at: next };
+pub fn next(year: u64, file: &[u8], next: u64, report: &mut [u64]) -> u64 {
+    reported_in::<STEP>(year, report, || {
+        let at = next;
+        let mut reader = Reader { year, file, at };
         let (refusal, right, none) = match reader.give() {
             Given::Record(right) => (ACCEPTED, right, 0),
             Given::Refused(refusal) => (refusal, Right::default(), 0),
@@ -315,24 +364,18 @@ pub fn next(file: &[u8], next: u64, report: &mut [u64]) -> u64 {
 
 /// "Writes all 64 targets of an hour number." The report has the paper's record
 /// number, in 7 and 8 "the lowest one with that fault".
-pub fn targets(
-    file: &[u8],
-    prices: &[i32],
-    hour: u64,
-    lines: &mut [i64],
-    report: &mut [u64],
-) -> u64 {
-    reported::<OUTCOME>(report, || {
-        let result = target::targets(file, prices, hour, lines);
+pub fn targets(asked: &Asked, lines: &mut [i64], report: &mut [u64]) -> u64 {
+    reported_in::<OUTCOME>(asked.year, report, || {
+        let result = target::targets(asked, lines);
         (result.refusal, [result.record])
     })
 }
 
 /// "Writes the rows of an hour number: line i is the cents of record i, 0 where
 /// that right is not live." The report is that of a target call.
-pub fn rows(file: &[u8], prices: &[i32], hour: u64, lines: &mut [i64], report: &mut [u64]) -> u64 {
-    reported::<OUTCOME>(report, || {
-        let result = target::rows(file, prices, hour, lines);
+pub fn rows(asked: &Asked, lines: &mut [i64], report: &mut [u64]) -> u64 {
+    reported_in::<OUTCOME>(asked.year, report, || {
+        let result = target::rows(asked, lines);
         (result.refusal, [result.record])
     })
 }
@@ -356,45 +399,139 @@ pub fn split(
 mod tests {
     use super::*;
 
-    /// A month end on words with one of them changed: the refusal and the report.
-    fn month_end(change: impl FnOnce(&mut Vec<u64>, &mut Vec<i64>)) -> (u64, [i64; 3]) {
-        let mut counts = vec![720, 0, 0];
-        let mut surpluses = vec![5, 0];
-        change(&mut counts, &mut surpluses);
-        let mut shortfalls = [0; SHORTFALLS];
+    /// The words of a book at its first month end.
+    struct Words {
+        counts: Vec<u64>,
+        shortfalls: Vec<u64>,
+        surpluses: Vec<i64>,
+        report: Vec<i64>,
+    }
+
+    fn at_a_month_end() -> Words {
+        let mut shortfalls = vec![0; SHORTFALLS];
         shortfalls[..4].copy_from_slice(&[7, 1, 0, 2]);
-        let mut words = BookWords {
-            counts: &mut counts,
-            shortfalls: &mut shortfalls,
-            surpluses: &mut surpluses,
+        Words {
+            counts: vec![720, 0, 0, 2_025],
+            shortfalls,
+            surpluses: vec![5, 0],
+            report: vec![9; SETTLED],
+        }
+    }
+
+    /// A month end on such words, some of them changed: the refusal and the report.
+    fn month_end(change: impl FnOnce(&mut Words)) -> (u64, Vec<i64>) {
+        let mut words = at_a_month_end();
+        change(&mut words);
+        let mut book = BookWords {
+            counts: &mut words.counts,
+            shortfalls: &mut words.shortfalls,
+            surpluses: &mut words.surpluses,
         };
-        let mut report = [9; 3];
-        let refusal = words.settle(Event::MonthEnd, &mut [0; 64], &mut report);
+        let refusal = book.settle(Event::MonthEnd, &mut [0; 64], &mut words.report);
         let paid = [0, 3, 0, 2];
         let expected = if refusal == 0 { paid } else { [7, 1, 0, 2] };
-        assert_eq!(shortfalls[..4], expected);
-        (refusal, report)
+        assert_eq!(words.shortfalls[..4], expected);
+        (refusal, words.report)
+    }
+
+    fn refused_with(number: u64) -> (u64, Vec<i64>) {
+        (number, vec![0; SETTLED])
     }
 
     #[test]
     fn the_words_are_looked_at_before_the_book() {
-        assert_eq!(month_end(|_, _| {}), (0, [0, 5, 7]));
-        assert_eq!(month_end(|counts, _| counts[2] = 1), (1, [0; 3]));
-        assert_eq!(month_end(|counts, _| counts[2] = 2), (1, [0; 3]));
-        assert_eq!(month_end(|_, surpluses| surpluses[1] = -1), (1, [0; 3]));
-        let both = month_end(|counts, surpluses| {
-            counts.push(0);
-            surpluses[0] = -1;
+        let accepted = (0, vec![0, 5, 7]);
+        assert_eq!(month_end(|_| {}), accepted);
+        assert_eq!(month_end(|words| words.counts[3] = 2_099), accepted);
+        assert_eq!(month_end(|words| words.counts[2] = 1), refused_with(1));
+        assert_eq!(month_end(|words| words.counts[2] = 2), refused_with(1));
+        assert_eq!(month_end(|words| words.surpluses[1] = -1), refused_with(1));
+        let both = month_end(|words| {
+            words.counts.push(0);
+            words.surpluses[0] = -1;
         });
-        assert_eq!(both, (4, [0; 3]));
+        assert_eq!(both, refused_with(4));
+        let both = month_end(|words| {
+            words.shortfalls.push(0);
+            words.counts[2] = 2;
+        });
+        assert_eq!(both, refused_with(4));
+        let no_report = month_end(|words| {
+            words.report.clear();
+            words.counts[2] = 2;
+        });
+        assert_eq!(no_report, (4, vec![]));
     }
 
-    /// A step over these words, with so many bytes of text and such an end: the
-    /// refusal and the report.
+    /// But not before the 4 for counts that have no year.
+    #[test]
+    fn a_year_outside_comes_before_the_other_words() {
+        for year in [0, 2_024, 2_100, u64::MAX] {
+            let outside = |change: fn(&mut Words)| {
+                month_end(|words| {
+                    (words.counts[2], words.counts[3]) = (2, year);
+                    words.surpluses[0] = -1;
+                    change(words);
+                })
+            };
+            assert_eq!(outside(|_| {}), refused_with(15));
+            assert_eq!(outside(|words| words.shortfalls.push(0)), refused_with(15));
+            assert_eq!(outside(|words| words.surpluses.clear()), refused_with(15));
+            assert_eq!(outside(|words| words.report.push(9)), (15, vec![9; 4]));
+            assert_eq!(outside(|words| words.counts.push(0)), refused_with(4));
+            assert_eq!(outside(|words| words.counts.truncate(3)), refused_with(4));
+            let all = outside(|words| {
+                words.counts.clear();
+                words.surpluses.clear();
+                words.report.clear();
+            });
+            assert_eq!(all, (4, vec![]));
+        }
+    }
+
+    /// The refusal of an opening over so many counts, and what they then are.
+    fn opened(year: u64, words: usize) -> (u64, Vec<u64>) {
+        let mut counts = vec![9; words];
+        let mut book = BookWords {
+            counts: &mut counts,
+            shortfalls: &mut [9; SHORTFALLS],
+            surpluses: &mut [9; SURPLUSES],
+        };
+        let refusal = book.open(year);
+        (refusal, counts)
+    }
+
+    #[test]
+    fn an_opening_writes_the_year_or_zeros() {
+        assert_eq!(opened(2_025, 4), (0, vec![0, 0, 0, 2_025]));
+        assert_eq!(opened(2_099, 4), (0, vec![0, 0, 0, 2_099]));
+        assert_eq!(opened(2_099, 3), (4, vec![9; 3]));
+        for year in [0, 2_024, 2_100, u64::MAX] {
+            assert_eq!(opened(year, 4), (15, vec![0; 4]));
+            assert_eq!(opened(year, 3), (15, vec![9; 3]));
+            assert_eq!(opened(year, 5), (15, vec![9; 5]));
+        }
+    }
+
+    /// A step over these words in 2025, with so many bytes of text and such an end:
+    /// the refusal and the report.
     fn stepped(mark: u64, bytes: usize, end: u64) -> (u64, [u64; STEPPED]) {
+        stepped_in(2_025, mark, bytes, end)
+    }
+
+    fn stepped_in(year: u64, mark: u64, bytes: usize, end: u64) -> (u64, [u64; STEPPED]) {
+        stepped_over(&mut [9, 0, mark, year], SHORTFALLS, bytes, end)
+    }
+
+    fn stepped_over(
+        counts: &mut [u64],
+        shortfalls: usize,
+        bytes: usize,
+        end: u64,
+    ) -> (u64, [u64; STEPPED]) {
         let mut words = BookWords {
-            counts: &mut [9, 0, mark],
-            shortfalls: &mut [0; SHORTFALLS],
+            counts,
+            shortfalls: &mut vec![0; shortfalls],
             surpluses: &mut [5, 0],
         };
         let bytes = &mut vec![7; bytes];
@@ -414,25 +551,51 @@ mod tests {
         assert_eq!(stepped(1, 12_483, 3), (1, [0, 3, 72, 9, 0]));
         let most = u64::MAX;
         assert_eq!(stepped(0, 20_000, most), (0, [1, most, 0, 0, 0]));
+        // A year outside comes before the mark, the room and the hour.
+        assert_eq!(stepped_in(2_100, 0, 12_483, 3), (15, [0, 3, 0, 0, 0]));
+        assert_eq!(stepped_in(2_024, 2, 12_482, 3), (15, [0, 3, 0, 0, 0]));
+    }
+
+    #[test]
+    fn the_letter_of_a_refusal_of_the_words_is_0() {
+        let over = |counts: &mut [u64], shortfalls| stepped_over(counts, shortfalls, 12_483, 3);
+        let refused = |number| (number, [0, 3, 0, 0, 0]);
+        assert_eq!(over(&mut [9, 0, 2, 2_100], SHORTFALLS), refused(15));
+        assert_eq!(over(&mut [9, 0, 2, 2_100], 127), refused(15));
+        assert_eq!(over(&mut [9, 0, 2], SHORTFALLS), refused(4));
+        assert_eq!(over(&mut [9, 0, 2, 2_100, 0], 127), refused(4));
+        assert_eq!(over(&mut [9, 0, 2, 2_025], 127), refused(4));
+        assert_eq!(over(&mut [9, 0, 2, 2_025], SHORTFALLS), refused(1));
     }
 
     /// The refusal and the record number of a target call and a row call over
     /// these records, with two prices.
     fn outcomes(records: &[[u8; 16]]) -> [(u64, u64); 2] {
         let rights = &records.concat();
+        let asked = asked(rights, &[0; 2], 9);
         let (mut report, lines) = ([9; OUTCOME], &mut vec![0; records.len()]);
-        let target = targets(rights, &[0; 2], 9, &mut [0; 64], &mut report);
+        let target = targets(&asked, &mut [0; 64], &mut report);
         let in_target = report[0];
         report = [9; OUTCOME];
-        let rows = rows(rights, &[0; 2], 9, lines, &mut report);
+        let rows = rows(&asked, lines, &mut report);
         [(target, in_target), (rows, report[0])]
+    }
+
+    /// In the year 2025.
+    fn asked<'a>(rights: &'a [u8], prices: &'a [i32], hour: u64) -> Asked<'a> {
+        Asked {
+            year: 2_025,
+            rights,
+            prices,
+            hour,
+        }
     }
 
     /// Those of an hour, with two prices, a step, a target call and a row call.
     fn record_numbers(records: &[[u8; 16]]) -> [(u64, u64); 4] {
         let rights = &records.concat();
         let mut words = BookWords {
-            counts: &mut [9, 0, 0],
+            counts: &mut [9, 0, 0, 2_025],
             shortfalls: &mut [0; SHORTFALLS],
             surpluses: &mut [5, 0],
         };
@@ -469,11 +632,56 @@ mod tests {
     fn a_report_of_another_number_comes_before_the_rows() {
         let (mut lines, mut report) = ([7], [9; 2]);
         let file = [5, 0, 0, 0, 1, 0, 0, 2, 10, 0, 0, 0, 1, 0, 109, 1];
-        assert_eq!(rows(&file, &[0, 1], 8_760, &mut lines, &mut report), 4);
-        assert_eq!(rows(&file, &[0, 1], 0, &mut lines, &mut []), 4);
+        let [late, now] = [8_760, 0].map(|hour| asked(&file, &[0, 1], hour));
+        let outside = Asked {
+            year: 2_100,
+            ..late
+        };
+        assert_eq!(rows(&late, &mut lines, &mut report), 4);
+        assert_eq!(rows(&now, &mut lines, &mut []), 4);
+        assert_eq!(rows(&outside, &mut lines, &mut report), 15);
         assert_eq!((lines, report), ([7], [9; 2]));
-        assert_eq!(rows(&file, &[0, 1], 0, &mut lines, &mut report[..1]), 0);
+        assert_eq!(rows(&outside, &mut lines, &mut report[..1]), 15);
+        assert_eq!((lines, report), ([7], [0, 9]));
+        assert_eq!(rows(&now, &mut lines, &mut report[..1]), 0);
         assert_eq!((lines, report), ([1], [0, 9]));
+    }
+
+    #[test]
+    fn a_year_outside_comes_before_a_report_of_another_number() {
+        let mut report = [9; STEP + 1];
+        for year in [0, 2_024, 2_100, u64::MAX] {
+            assert_eq!(calendar(year, 0, &mut report), 15);
+            assert_eq!(days(year, &mut [], &mut report), 15);
+            assert_eq!(read(year, &[0; 15], 0, &mut report), 15);
+            assert_eq!(next(year, &[0; 15], 0, &mut report), 15);
+            assert_eq!(report, [9; STEP + 1]);
+        }
+        assert_eq!(calendar(2_025, u64::MAX, &mut report), 4);
+        assert_eq!(read(2_100, &[0; 16], 0, &mut report[..RIGHT]), 15);
+        assert_eq!(report, [0, 0, 0, 0, 0, 0, 0, 0, 9, 9, 9]);
+    }
+
+    #[test]
+    fn the_day_table_of_a_year() {
+        let (mut table, mut report) = ([99; 367], [9; 2]);
+        assert_eq!(days(2_025, &mut table, &mut report), 4);
+        assert_eq!((table, report), ([99; 367], [9; 2]));
+        assert_eq!(days(2_027, &mut table[..365], &mut report[..1]), 4);
+        assert_eq!((table, report), ([99; 367], [0, 9]));
+        assert_eq!(days(2_025, &mut table, &mut report[..1]), 0);
+        // A Sunday in June, a Monday; a Sunday in May, which is the last day.
+        assert_eq!(
+            ([table[0], table[1], table[364]], report[0]),
+            ([0, 1, 22], 365)
+        );
+        assert_eq!(table[365..], [99; 2]);
+        assert_eq!(days(2_027, &mut table, &mut report[..1]), 0);
+        // Tuesday 1 June 2027, Wednesday 31 May 2028.
+        assert_eq!(
+            ([table[0], table[365], table[366]], report[0]),
+            ([1, 23, 99], 366)
+        );
     }
 
     #[test]
@@ -500,8 +708,9 @@ mod tests {
 
     #[test]
     fn a_closing_with_just_enough_room() {
+        // The year is not looked at.
         let words = BookWords {
-            counts: &mut [9, 0, 0],
+            counts: &mut [9, 0, 0, 2_100],
             shortfalls: &mut [0; SHORTFALLS],
             surpluses: &mut [5, 0],
         };
@@ -531,11 +740,16 @@ mod tests {
     #[test]
     fn the_reader_goes_on_past_a_bad_record() {
         let mut report = [9; STEP];
-        assert_eq!(next(&[0; 32], 0, &mut report), 7);
+        assert_eq!(next(2_025, &[0; 32], 0, &mut report), 7);
         assert_eq!(report, [0, 0, 0, 0, 0, 0, 0, 0, 1, 0]);
-        assert_eq!(next(&[0; 32], 2, &mut report), 0);
+        assert_eq!(next(2_025, &[0; 32], 2, &mut report), 0);
         assert_eq!(report, [0, 0, 0, 0, 0, 0, 0, 0, 2, 1]);
-        assert_eq!(next(&[0; 32], 2, &mut report[..9]), 4);
+        assert_eq!(next(2_025, &[0; 32], 2, &mut report[..9]), 4);
         assert_eq!(report[8], 2);
+        for file in [&[][..], &[0; 15], &[0; 32]] {
+            report = [9; STEP];
+            assert_eq!(next(2_024, file, 2, &mut report), 15);
+            assert_eq!(report, [0, 0, 0, 0, 0, 0, 0, 0, 2, 0]);
+        }
     }
 }

@@ -1,1 +1,2 @@
+pub mod Almanac
 pub mod Year

@@ -1,4 +1,4 @@
-// The table of the year: one entry for each day, twice the month, plus 1 on a working day.
+// The table of the year that starts in 2025: one entry for each day, twice the month, plus 1 on a working day.
 pub(crate) const DAYS: [u8; 365] = [
     0, // day 1, 1 June
     1, 1, 1, 1, 1, 0, 0, 1, 1, 1, 1, 1, 0, 0, 1, 1, 1, 1, 1, 0, 0, 1, 1, 1, 1, 1, 0, 0, 1, 3, // day 31, 1 July

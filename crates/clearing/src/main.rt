@@ -100,7 +100,7 @@ impl Statement {
         rights: &[u8],
     ) -> io::Result<()> {
         let mut room = [0u8; hour_block::HOUR_BYTES];
-        for _ in 0..=calendar::HOURS_IN_YEAR {
+        for _ in 0..=calendar::hours_in_year(settlement_run::PROGRAM_YEAR) {
             if self.run.refusal != 0 {
                 break;
             }

@@ -9,7 +9,7 @@ use native.Mathlib.Omega.{arith}
 use lib.Dec.{eqb}
 use lib.ListN.{length}
 use lib.IntN.{ℤ}
-use borrow.Author.Tests.{eqb-true, eq-eqb}
+use borrow.Author.Tests.{eqb-false, eqb-true, eq-eqb}
 use Rattle.std.specs.Prelude.{Ok, Err}
 use Rattle.numbers.specs.Limits.{nodes}
 use Rattle.numbers.specs.declared.refusal.Refusal.{Refusal}
@@ -85,6 +85,22 @@ either_number bytes places = by_test (not (eqb bytes hour_bytes) || not (eqb pla
         → (decode_refusal bytes places ≡ 0) ⊎ (decode_refusal bytes places ≡ 4)
     by_test true wrong = inr (refusal_here 4 [] wrong)
     by_test false right = inl (refusal_next 4 [] right ∙ refusal_none)
+
+-- with a place for each price the length alone decides
+module _ (bytes : ℕ) where
+  pub is_whole : decode_refusal bytes nodes ≡ 0 → eqb bytes hour_bytes ≡ true
+  is_whole none = by_test (eqb bytes hour_bytes) refl
+    where
+      by_test : (test : Bool) → eqb bytes hour_bytes ≡ test → test ≡ true
+      by_test true e = refl
+      by_test false e = absurd (omega (arith, wrong_length bytes nodes (λ is _. eqb-false bytes hour_bytes e is)))
+
+  pub is_broken : decode_refusal bytes nodes ≡ 4 → eqb bytes hour_bytes ≡ false
+  is_broken some = by_test (eqb bytes hour_bytes) refl
+    where
+      by_test : (test : Bool) → eqb bytes hour_bytes ≡ test → test ≡ false
+      by_test false e = refl
+      by_test true e = absurd (omega (arith, right_length bytes nodes (eqb-true bytes hour_bytes e) refl))
 
 -- with a refusal: its number, and its word
 pub decoded_refused : (block : List ℕ) (places : ℕ) (refusal : Refusal) → Err refusal ≡ decoded block places

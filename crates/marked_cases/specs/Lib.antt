@@ -1,3 +1,4 @@
+pub mod Dates
 pub mod Sentences
 pub mod Table
 pub mod WrittenOut

@@ -1,16 +1,17 @@
 -- The marked cases, shown of the rules themselves: one table, and one test that the prover computes over the whole of it.
 -- Assumes nothing.
 use Rattle.std.specs.Prelude.{ℕ, ◌≡◌, refl, Bool, true, false, not, ◌&&◌, List, [], ◌∷◌, ◌++◌, eqb, ℤ, pos, negsuc}
-use Rattle.numbers.specs.Lists.{total, count_below, list_below, sum_below}
+use Rattle.numbers.specs.Lists.{total, count_below, any_below, lowest_below, list_below, sum_below}
 use Rattle.numbers.specs.Refusals.{first_refusal}
-use Rattle.calendar.specs.Year.{ended_by, month_of, is_among, is_working, is_peak, calendar_refusal, operating_hour}
+use Rattle.calendar.specs.Almanac.{first_year, days_of_months, days_in_year, date, june_after, june_weekday, weekday, first_from, holidays, kept_on, kept_holidays, is_among, is_working}
+use Rattle.calendar.specs.Year.{ends_from, month_ends, ended_by, month_of, is_peak, calendar_refusal, operating_hour}
 use Rattle.target.specs.Rounding.{round_tenths}
 use Rattle.target.specs.Target.{live_cents, row_cents, own_row, own_sum, target}
 use Rattle.split.specs.Split.{whole_part, remainder, unpaid_cents, is_ahead, gets_odd_cent, payment, payments, left}
-use Rattle.marked_cases.specs.WrittenOut.{right_to, prices_at}
+use Rattle.marked_cases.specs.WrittenOut.{right_until, right_to, prices_at}
 
--- a marked case: tenths and the cents that they round to; a rights file and prices, with the target of owner 0 in hour 0; a fund and its
--- wants, with the payments and what is left; an hour that is peak; one that is off-peak
+-- a marked case: tenths and the cents that they round to; a rights file and prices, with the target of owner 0 in hour 0 of the year that
+-- starts in 2025; a fund and its wants, with the payments and what is left; an hour of that year that is peak; one that is off-peak
 pub data Case : Type 0 where
   rounds : ℤ → ℤ → Case
   comes_to : List ℕ → List ℤ → ℤ → Case
@@ -35,10 +36,10 @@ same_list (x ∷ xs) [] = false
 unfoldable pub holds : Case → Bool
 unfolding same_number same_list
 holds (rounds tenths cents) = same_number (round_tenths tenths) cents
-holds (comes_to file prices cents) = same_number (target file prices 0 0) cents
+holds (comes_to file prices cents) = same_number (target first_year file prices 0 0) cents
 holds (splits fund wants paid rest) = same_list (payments fund wants) paid && eqb (left fund wants) rest
-holds (peak hour) = is_peak hour
-holds (off_peak hour) = not (is_peak hour)
+holds (peak hour) = is_peak first_year hour
+holds (off_peak hour) = not (is_peak first_year hour)
 
 unfoldable pub all_hold : List Case → Bool
 all_hold [] = true
@@ -83,5 +84,5 @@ unfoldable pub marked_cases : List Case
 marked_cases = roundings ++ targets_of_rights ++ splittings ++ hours
 
 pub marked_cases_hold : all_hold marked_cases ≡ true
-unfolding marked_cases roundings targets_of_rights splittings hours right_to prices_at holds all_hold round_tenths target own_sum sum_below own_row row_cents live_cents operating_hour calendar_refusal month_of ended_by first_refusal payments payment left total list_below whole_part gets_odd_cent count_below is_ahead remainder unpaid_cents is_peak is_working is_among
+unfolding marked_cases roundings targets_of_rights splittings hours right_until prices_at holds all_hold round_tenths target own_sum sum_below own_row row_cents live_cents operating_hour calendar_refusal month_of month_ends ends_from ended_by days_of_months days_in_year june_after june_weekday weekday date first_from lowest_below any_below holidays kept_on kept_holidays first_refusal payments payment left total list_below whole_part gets_odd_cent count_below is_ahead remainder unpaid_cents is_peak is_working is_among
 marked_cases_hold = refl

@@ -15,7 +15,7 @@ use Rattle.numbers.specs.Lists.{any_below}
 use Rattle.numbers.proofs.Any.{any_miss}
 use Rattle.numbers.proofs.Booleans.{both_true, neither_true}
 use Rattle.numbers.specs.declared.refusal.Refusal.{Refusal}
-use Rattle.numbers.specs.declared.refusal.Refusal.TheVariants.{SpoiledBook, YearOver, OutOfTurn, WrongLength, WildPrice, WildAmount, BadRight, UnpricedNode, HourTooLarge, CarryFull, WantTooLarge, TooManyWants, TotalTooLarge}
+use Rattle.numbers.specs.declared.refusal.Refusal.TheVariants.{SpoiledBook, YearOver, OutOfTurn, WrongLength, WildPrice, WildAmount, BadRight, UnpricedNode, HourTooLarge, CarryFull, WantTooLarge, NoSuchYear, TooManyWants, TotalTooLarge}
 use Rattle.numbers.specs.Refusals.{Row, ◌if◌, first_refusal, answer_by, number_in, record_in, all_refusals, refusal_with, refusal_of, answered, answer_number, answer_record}
 
 -- some row of the table has this number
@@ -173,6 +173,7 @@ refusal_is (UnpricedNode faulty) = refl
 refusal_is HourTooLarge = refl
 refusal_is CarryFull = refl
 refusal_is WantTooLarge = refl
+refusal_is NoSuchYear = refl
 refusal_is TooManyWants = refl
 refusal_is TotalTooLarge = refl
 
@@ -189,21 +190,54 @@ number_some (UnpricedNode faulty) e = omega arith
 number_some HourTooLarge e = omega arith
 number_some CarryFull e = omega arith
 number_some WantTooLarge e = omega arith
+number_some NoSuchYear e = omega arith
 number_some TooManyWants e = omega arith
 number_some TotalTooLarge e = omega arith
-
--- the refusal of a number up to 11 has that number
-pub number_back : (number faulty : ℕ) → 0 < number → number ≤ 11 → number_in (refusal_of number faulty) ≡ number
-unfolding any_below
-number_back zero faulty some within = absurd (omega arith)
-number_back (suc n) faulty some within = eqb-true _ _ (not-false _ (any_miss differs 11 n refl (omega arith)))
-  where
-    differs : ℕ → Bool
-    differs k = not (eqb (number_in (refusal_of (suc k) faulty)) (suc k))
 
 -- a refusal has this number
 abbrev pub has_refusal : ℕ → Bool
 has_refusal number = eqb (number_in (refusal_of number 0)) number
+
+-- the numbers of refusals, and the one of them that is looked for, found as the refusal is
+abbrev numbers_of : List Refusal → List ℕ
+numbers_of [] = []
+numbers_of (refusal ∷ others) = number_in refusal ∷ numbers_of others
+
+abbrev number_with : ℕ → List ℕ → ℕ
+number_with number [] = number_in SpoiledBook
+number_with number (other ∷ others) = cond (eqb other number) other (number_with number others)
+
+number_found : (number : ℕ) (refusals : List Refusal) → number_in (refusal_with number refusals) ≡ number_with number (numbers_of refusals)
+number_found number [] = refl
+number_found number (refusal ∷ others) =
+    by_test (eqb (number_in refusal) number) (refusal_with number others) (number_found number others)
+  where
+    by_test : (test : Bool) (other : Refusal) {found : ℕ} → number_in other ≡ found
+        → number_in (cond test refusal other) ≡ cond test (number_in refusal) found
+    by_test true other there = refl
+    by_test false other there = there
+
+-- that refusal has the number, whatever record it names
+pub number_back : (number faulty : ℕ) → has_refusal number ≡ true → number_in (refusal_of number faulty) ≡ number
+number_back number faulty has =
+    number_found number (all_refusals faulty) ∙ sym (number_found number (all_refusals 0)) ∙ eqb-true _ _ has
+
+-- 0, or the number of a refusal
+abbrev pub IsNumber : ℕ → Type 0
+IsNumber number = (number ≡ 0) ⊎ (has_refusal number ≡ true)
+
+-- what comes from a table each of whose numbers a refusal has
+pub is_number : (rows : List Row) → each_number has_refusal rows ≡ true → IsNumber (first_refusal rows)
+is_number = number_passes has_refusal
+
+-- each number up to 11 is one
+pub low_number : (number : ℕ) → number ≤ 11 → IsNumber number
+unfolding any_below
+low_number zero within = inl refl
+low_number (suc n) within = inr (not-false _ (any_miss differs 11 n refl (omega arith)))
+  where
+    differs : ℕ → Bool
+    differs k = not (has_refusal (suc k))
 
 -- what every refusal of a list passes, the one with a number passes
 refusal_passes : (passes : Refusal → Bool) (number : ℕ) (refusals : List Refusal) → passes SpoiledBook ≡ true → each passes refusals ≡ true
@@ -270,20 +304,15 @@ module _ {A : Type 0} where
   refused_with (suc n) faulty value some = refl
 
   -- an answer in numbers: its number, its record, and its value or another
-  pub number_answered : (number faulty : ℕ) (value : A) → number ≤ 11 → answer_number (answered number faulty value) ≡ number
-  number_answered zero faulty value within = refl
-  number_answered (suc n) faulty value within = number_back (suc n) faulty (omega arith) within
+  pub number_answered : (number faulty : ℕ) (value : A) → IsNumber number → answer_number (answered number faulty value) ≡ number
+  number_answered zero faulty value some = refl
+  number_answered (suc n) faulty value (inl none) = absurd (omega arith)
+  number_answered (suc n) faulty value (inr some) = number_back (suc n) faulty some
 
   -- the answer of a table each of whose numbers a refusal has
   pub table_answered : (rows : List Row) (value : A) → each_number has_refusal rows ≡ true
       → answer_number (answered (first_refusal rows) 0 value) ≡ first_refusal rows
-  table_answered rows value all =
-      by_number (first_refusal rows) (number_passes has_refusal rows all)
-    where
-      by_number : (number : ℕ) → (number ≡ 0) ⊎ (has_refusal number ≡ true) → answer_number (answered number 0 value) ≡ number
-      by_number zero some = refl
-      by_number (suc n) (inl none) = absurd (omega arith)
-      by_number (suc n) (inr some) = eqb-true _ _ some
+  table_answered rows value all = number_answered (first_refusal rows) 0 value (is_number rows all)
 
   pub record_answered : (number faulty : ℕ) (value : A) → ((number ≡ 7 → ⊥) → (number ≡ 8 → ⊥) → faulty ≡ 0)
       → answer_record (answered number faulty value) ≡ faulty

@@ -2,14 +2,15 @@
 -- Assumes nothing.
 use Rattle.std.specs.Prelude.{ℕ, zero, suc, Bool, cond, List, [], ◌∷◌, eqb, Result, Ok, Err}
 use Rattle.numbers.specs.declared.refusal.Refusal.{Refusal}
-use Rattle.numbers.specs.declared.refusal.Refusal.TheVariants.{SpoiledBook, YearOver, OutOfTurn, WrongLength, WildPrice, WildAmount, BadRight, UnpricedNode, HourTooLarge, CarryFull, WantTooLarge, TooManyWants, TotalTooLarge}
+use Rattle.numbers.specs.declared.refusal.Refusal.TheVariants.{SpoiledBook, YearOver, OutOfTurn, WrongLength, WildPrice, WildAmount, BadRight, UnpricedNode, HourTooLarge, CarryFull, WantTooLarge, NoSuchYear, TooManyWants, TotalTooLarge}
 
 -- a row of the table: this number, if the test holds
 infix 20 ◌if◌
 pub data Row : Type 0 where
   ◌if◌ : ℕ → Bool → Row
 
--- "Where several apply, the lowest number comes", but "16 .. right after 4": the first number whose test holds, 0 if none does
+-- "Where several apply, the lowest number comes", but "16 .. right after 4", and 15 "before any other check": the first number whose test
+-- holds, 0 if none does
 unfoldable pub first_refusal : List Row → ℕ
 first_refusal [] = 0
 first_refusal ((number if test) ∷ rows) = cond test number (first_refusal rows)
@@ -34,6 +35,7 @@ number_in (UnpricedNode faulty) = 8
 number_in HourTooLarge = 9
 number_in CarryFull = 10
 number_in WantTooLarge = 11
+number_in NoSuchYear = 15
 number_in TooManyWants = 16
 number_in TotalTooLarge = 17
 
@@ -57,6 +59,7 @@ all_refusals faulty =
     ∷ HourTooLarge
     ∷ CarryFull
     ∷ WantTooLarge
+    ∷ NoSuchYear
     ∷ TooManyWants
     ∷ TotalTooLarge
     ∷ []

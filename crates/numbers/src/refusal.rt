@@ -16,6 +16,7 @@ pub enum Refusal {
     HourTooLarge,
     CarryFull,
     WantTooLarge,
+    NoSuchYear,
     TooManyWants,
     TotalTooLarge,
 }
@@ -39,6 +40,7 @@ impl Refusal {
             Refusal::HourTooLarge => 9,
             Refusal::CarryFull => 10,
             Refusal::WantTooLarge => 11,
+            Refusal::NoSuchYear => 15,
             Refusal::TooManyWants => 16,
             Refusal::TotalTooLarge => 17,
         }

@@ -54,6 +54,7 @@ unfolding book_from counts_of surpluses_of
 book_back book months years =
     λ i.
     record {
+      year = book.year;
       hours = book.hours;
       months = book.months;
       ended = mark_back book.ended i;
@@ -103,7 +104,7 @@ words_back words counted marked drawn =
 
     counts : counts_of (book_from words) ≡ words.counts
     counts =
-        ap (λ (mark : ℕ). get_or words.counts 0 0 ∷ get_or words.counts 1 0 ∷ mark ∷ []) (mark_kept (mark_in words) (ltb-false 1 (mark_in words) marked))
+        ap (λ (mark : ℕ). get_or words.counts 0 0 ∷ get_or words.counts 1 0 ∷ mark ∷ get_or words.counts 3 0 ∷ []) (mark_kept (mark_in words) (ltb-false 1 (mark_in words) marked))
         ∙ list_of_elements words.counts 0 sized.counts
 
     cells : by_owner (cells_from words.shortfalls 0) (cells_from words.shortfalls 1) ≡ words.shortfalls

@@ -17,11 +17,12 @@ use Rattle.settlement.specs.declared.Funding.{Funding}
 use Rattle.settlement.specs.declared.Settled.{Settled as Handed}
 use Rattle.settlement.specs.Events.{hour_call, month_end_call, year_end_call, Settled, in_numbers, result_of, Call, fund, demand, book_after, lines, refusal, record_of, Answered}
 use Rattle.settlement.proofs.Amounts.{small_amounts, record_within}
-use Rattle.settlement.proofs.Refusing.{record_none, gives_number, gives_record, gives_fund, gives_demand, gives_book_lem}
-use Rattle.pupcopper.specs.BookWords.{BookWords, words_of, book_from}
+use Rattle.settlement.proofs.Refusing.{record_other, gives_number, gives_record, gives_fund, gives_demand, gives_book_lem}
+use Rattle.pupcopper.specs.BookWords.{BookWords, words_of, book_from, year_in}
 use Rattle.pupcopper.specs.Calls.{is_wrong_report, settled_report, settled_words, words_refusal, event_refusal, Settles}
 use Rattle.pupcopper.specs.InnerContracts.{bytes_lent, SurplusesFit, ResultFits}
-use Rattle.pupcopper.proofs.WordRows.{words_most}
+use Rattle.pupcopper.proofs.WordRows.{words_not_7, words_not_8}
+use mathlib.Core.Bool.{true}
 
 -- the book of a result is the one that is handed back
 pub book_is : (settled : Handed) → (in_numbers settled).book ≡ settled.book
@@ -32,14 +33,14 @@ book_is settled = by_outcome settled.outcome
     by_outcome (Err why) = refl
 
 -- the record that a call names is one of its rights
-record_lent : (call : Call) (number : ℕ) → record_of call number ≤ bytes_lent call
-record_lent (hour_call file prices collected) number = omega (arith, record_within (hour_call file prices collected) number)
-record_lent month_end_call number = record_within month_end_call number
-record_lent year_end_call number = record_within year_end_call number
+record_lent : (call : Call) (year number : ℕ) → record_of call year number ≤ bytes_lent call
+record_lent (hour_call file prices collected) year number = omega (arith, record_within (hour_call file prices collected) year number)
+record_lent month_end_call year number = record_within month_end_call year number
+record_lent year_end_call year number = record_within year_end_call year number
 
 module _ (call : Call) (words : BookWords) (report lent : List ℤ) where
   abbrev own : ℕ
-  own = words_refusal settled_words words (length report)
+  own = words_refusal true settled_words words (length report)
 
   abbrev book : Book
   book = book_from words
@@ -58,10 +59,16 @@ module _ (call : Call) (words : BookWords) (report lent : List ℤ) where
         writes_lines = sym (answer_refused number _ lent some);
       }
     where
-      zeros : settled_report 0 0 0 ≡ settled_report (record_of call number) (answer_by number (fund call book) 0) (answer_by number (demand call book) 0)
+      not_7 : number ≡ 7 → ⊥
+      not_7 e = words_not_7 true settled_words words (length report) (sym is ∙ e)
+
+      not_8 : number ≡ 8 → ⊥
+      not_8 e = words_not_8 true settled_words words (length report) (sym is ∙ e)
+
+      zeros : settled_report 0 0 0 ≡ settled_report (record_of call (year_in words) number) (answer_by number (fund call book) 0) (answer_by number (demand call book) 0)
       zeros =
           λ i.
-          settled_report (sym (record_none call number (omega (arith, is, words_most settled_words words (length report)))) i)
+          settled_report (sym (record_other call (year_in words) number not_7 not_8) i)
           (sym (answer_refused number (fund call book) 0 some) i) (sym (answer_refused number (demand call book) 0 some) i)
 
   -- ---- the event of the book
@@ -92,7 +99,7 @@ module _ (call : Call) (words : BookWords) (report lent : List ℤ) where
     pub result_fits : bytes_lent call < 2 ^ 63 → ResultFits result
     result_fits few =
         record {
-          named = omega (arith, gives_record answered, record_lent call own_number);
+          named = omega (arith, gives_record answered, record_lent call book.year own_number);
           paid_from = fund_fits (ℕ_discrete own_number 0);
           wanted = demand_fits (ℕ_discrete own_number 0);
           kept = λ z. surpluses_fit (sym (gives_number answered) ∙ z);
@@ -102,14 +109,14 @@ module _ (call : Call) (words : BookWords) (report lent : List ℤ) where
         → report_after ≡ cond (is_wrong_report settled_words (length report)) report (settled_report result.faulty result.fund result.demand)
         → words_after ≡ answer_by number (words_of result.book) words
         → Settles call words report lent number words_after report_after lines_after
-    unfolding event_refusal
+    unfolding event_refusal book_from
     settled_event number words_after report_after clear is written kept =
         record {
           number = same ∙ sym (answer_accepted own own_number own clear);
           reports =
               written
               ∙ ap (cond (is_wrong_report settled_words (length report)) report)
-              (λ i. settled_report ((gives_record answered ∙ ap (record_of call) (sym same)) i) ((gives_fund answered ∙ by_number (fund call book) 0) i) ((gives_demand answered ∙ by_number (demand call book) 0) i));
+              (λ i. settled_report ((gives_record answered ∙ ap (record_of call (year_in words)) (sym same)) i) ((gives_fund answered ∙ by_number (fund call book) 0) i) ((gives_demand answered ∙ by_number (demand call book) 0) i));
           gives_book = kept ∙ words_of_lem (ℕ_discrete number 0);
           writes_lines = answered.writes ∙ by_number (lines call book) lent;
         }

@@ -19,16 +19,18 @@ use Rattle.settlement.specs.Book.{fresh}
 use Rattle.settlement.specs.Events.{Call, fund, demand, book_after, lines, refusal, record_of, Answered}
 use Rattle.settlement.specs.Ledger.{asked, book_at, ledger_of, IsLedger}
 use Rattle.settlement.specs.Claim.{Claim}
-use Rattle.settlement.proofs.ClaimHolds.{claim}
+use Rattle.settlement.proofs.ClaimHolds.{claim, kept_all}
+use Rattle.settlement.proofs.Opening.{opened_fresh}
+use Rattle.calendar.specs.Almanac.{is_outside}
 use Rattle.settlement.proofs.OneLedger.{book_at_start, book_at_entry, only_ledger}
 use Rattle.settlement.proofs.Kept.{kept_fresh}
 use Rattle.settlement.proofs.SameCells.{long_after}
 use Rattle.settlement.proofs.Shares.{IsLong}
-use Rattle.pupcopper.specs.BookWords.{BookWords, shortfall_words, counts_of, by_owner, surpluses_of, words_of, cells_from, book_from, is_no_book, is_wrong_count, is_wrong_mark, is_overdrawn}
-use Rattle.pupcopper.specs.Calls.{number_of, is_wrong_report, settled_words, settled_report, event_refusal, Settles}
+use Rattle.pupcopper.specs.BookWords.{BookWords, year_in, shortfall_words, counts_of, by_owner, surpluses_of, words_of, cells_from, book_from, is_no_book, is_wrong_count, is_wrong_mark, is_overdrawn}
+use Rattle.pupcopper.specs.Calls.{number_of, is_wrong_report, settled_words, settled_report, event_refusal, words_opened, Settles}
 use Rattle.pupcopper.specs.HostLedger.{HostEntry, words_at, IsHostList, word_in, entry_of, host_ledger}
 use Rattle.pupcopper.proofs.BothWays.{book_back}
-use Rattle.pupcopper.proofs.WordRows.{wrong_report, good_words}
+use Rattle.pupcopper.proofs.WordRows.{dated_words, opened_written, wrong_report, good_words}
 
 -- words that are a book's
 record Good (words : BookWords) : Type 0 where
@@ -41,7 +43,7 @@ words_good : (book : Book) → Good (words_of book)
 unfolding counts_of by_owner surpluses_of
 words_good book =
     record {
-      counted = ap (λ (cells : ℕ). is_no_book 3 cells 2) (length_list_below _ shortfall_words);
+      counted = ap (λ (cells : ℕ). is_no_book 4 cells 2) (length_list_below _ shortfall_words);
       marked = by_mark book.ended;
       drawn = rw (le-ltb book.monthsurplus 0 zero-le, le-ltb book.yearsurplus 0 zero-le);
     }
@@ -70,19 +72,19 @@ module _ (entry : HostEntry) (words : BookWords) (good : Good words)
     number = entry.number
 
     -- with a report of another length nothing changes
-    unchanged : is_wrong_report settled_words (length entry.report) ≡ true → entry.words ≡ words
+    unchanged : is_outside (year_in words) ≡ false → is_wrong_report settled_words (length entry.report) ≡ true → entry.words ≡ words
     unfolding event_refusal
-    unchanged wrong =
-        let own = wrong_report settled_words words (length entry.report) good.counted wrong in
+    unchanged within wrong =
+        let own = wrong_report true settled_words words (length entry.report) (dated_words words good.counted) within good.counted wrong in
         let is_4 = settles.number ∙ ap (λ (n : ℕ). number_of n (refusal call book (length entry.lent))) (sym own) in
         settles.gives_book ∙ answer_refused number (words_of (book_after call book)) words (λ z. omega (arith, is_4, z))
 
-    module _ (fits : is_wrong_report settled_words (length entry.report) ≡ false) where
+    module _ (within : is_outside (year_in words) ≡ false) (fits : is_wrong_report settled_words (length entry.report) ≡ false) where
       number_is : number ≡ refusal call book (length entry.lent)
       unfolding event_refusal
       number_is =
           settles.number
-          ∙ answer_accepted _ _ _ (sym (good_words settled_words words (length entry.report) good.counted fits good.marked good.drawn))
+          ∙ answer_accepted _ _ _ (sym (good_words true settled_words words (length entry.report) (dated_words words good.counted) within good.counted fits good.marked good.drawn))
 
       by_number : {A : Type 0} (accepted refused : A)
           → answer_by number accepted refused ≡ answer_by (refusal call book (length entry.lent)) accepted refused
@@ -102,25 +104,26 @@ module _ (entry : HostEntry) (words : BookWords) (good : Good words)
               ∙ sym (answer_refused number (book_after call book) book some)
 
       -- the report's three words
-      report_is : entry.reported ≡ settled_report (record_of call number) (answer_by number (fund call book) 0) (answer_by number (demand call book) 0)
+      report_is : entry.reported ≡ settled_report (record_of call (year_in words) number) (answer_by number (fund call book) 0) (answer_by number (demand call book) 0)
       report_is =
           settles.reports
-          ∙ ap (λ (wrong : Bool). cond wrong entry.report (settled_report (record_of call number) (answer_by number (fund call book) 0) (answer_by number (demand call book) 0))) fits
+          ∙ ap (λ (wrong : Bool). cond wrong entry.report (settled_report (record_of call (year_in words) number) (answer_by number (fund call book) 0) (answer_by number (demand call book) 0))) fits
 
       word_is : (place : ℕ)
           → word_in entry.reported place
-          ≡ word_in (settled_report (record_of call number) (answer_by number (fund call book) 0) (answer_by number (demand call book) 0)) place
+          ≡ word_in (settled_report (record_of call (year_in words) number) (answer_by number (fund call book) 0) (answer_by number (demand call book) 0)) place
       word_is place = ap (λ (r : List ℤ). word_in r place) report_is
 
       -- the call is an entry on the book that the words stand for
       is_entry : Answered call book entry.lent (entry_of entry).result entry.written
+      unfolding book_from
       is_entry =
           record {
             gives =
                 λ i.
                 record {
                   refusal = number_is i;
-                  faulty = (word_is 0 ∙ ap (record_of call) number_is) i;
+                  faulty = (word_is 0 ∙ ap (record_of call (year_in words)) number_is) i;
                   fund = (word_is 1 ∙ by_number (fund call book) 0) i;
                   demand = (word_is 2 ∙ by_number (demand call book) 0) i;
                   book = (book_is ∙ by_number (book_after call book) book) i;
@@ -142,51 +145,69 @@ module _ (entry : HostEntry) (words : BookWords) (good : Good words)
 
 -- ---- the whole list
 
--- what a list of calls keeps: its words are a book's, its ledger is one, and ends in the book that the words stand for
-record HostKept (list : List HostEntry) : Type 0 where
-  pub sound : Good (words_at list)
-  pub same : book_at (host_ledger list) ≡ book_from (words_at list)
-  pub ledger : IsLedger (host_ledger list)
+module _ (year : ℕ) (in_range : is_outside year ≡ false) where
+  -- what a list of calls keeps: its words are a book's, its ledger is one, and ends in the book that the words stand for
+  record HostKept (list : List HostEntry) : Type 0 where
+    pub sound : Good (words_at year list)
+    pub same : book_at year (host_ledger list) ≡ book_from (words_at year list)
+    pub ledger : IsLedger year (host_ledger list)
 
-kept_next : (entry : HostEntry) (past : List HostEntry) → HostKept past
-    → Settles entry.call (words_at past) entry.report entry.lent entry.number entry.words entry.reported entry.written
-    → HostKept (entry ∷ past)
-unfolding words_at host_ledger
-kept_next entry past kept settles =
-    record {
-      sound = good_after entry (words_at past) kept.sound settles;
-      same = same_next (is_wrong_report settled_words (length entry.report)) refl;
-      ledger = ledger_next (is_wrong_report settled_words (length entry.report)) refl;
-    }
-  where
-    same_next : (wrong : Bool) → is_wrong_report settled_words (length entry.report) ≡ wrong
-        → book_at (cond wrong (host_ledger past) (entry_of entry ∷ host_ledger past)) ≡ book_from entry.words
-    same_next true wrong = kept.same ∙ ap book_from (sym (unchanged entry (words_at past) kept.sound settles wrong))
-    same_next false fits = book_at_entry (entry_of entry) (host_ledger past)
+  -- the words have the year of the list
+  within : (list : List HostEntry) → HostKept list → is_outside (year_in (words_at year list)) ≡ false
+  unfolding book_from
+  within list kept =
+      let is = sym (ap (λ (b : Book). b.year) kept.same) ∙ (kept_all year in_range (host_ledger list) kept.ledger).same_year in
+      ap is_outside is ∙ in_range
 
-    ledger_next : (wrong : Bool) → is_wrong_report settled_words (length entry.report) ≡ wrong
-        → IsLedger (cond wrong (host_ledger past) (entry_of entry ∷ host_ledger past))
-    ledger_next true wrong = kept.ledger
-    ledger_next false fits = (
-      subst (λ (b : Book). Answered entry.call b entry.lent (entry_of entry).result entry.written) (sym kept.same)
-          (is_entry entry (words_at past) kept.sound settles fits),
-      kept.ledger,
-    )
+  host_next : (entry : HostEntry) (past : List HostEntry) → HostKept past
+      → Settles entry.call (words_at year past) entry.report entry.lent entry.number entry.words entry.reported entry.written
+      → HostKept (entry ∷ past)
+  unfolding words_at host_ledger
+  host_next entry past kept settles =
+      record {
+        sound = good_after entry (words_at year past) kept.sound settles;
+        same = same_next (is_wrong_report settled_words (length entry.report)) refl;
+        ledger = more_next (is_wrong_report settled_words (length entry.report)) refl;
+      }
+    where
+      same_next : (wrong : Bool) → is_wrong_report settled_words (length entry.report) ≡ wrong
+          → book_at year (cond wrong (host_ledger past) (entry_of entry ∷ host_ledger past)) ≡ book_from entry.words
+      same_next true wrong =
+          kept.same ∙ ap book_from (sym (unchanged entry (words_at year past) kept.sound settles (within past kept) wrong))
+      same_next false fits = book_at_entry year (entry_of entry) (host_ledger past)
 
-kept_all : (list : List HostEntry) → IsHostList list → HostKept list
-unfolding words_at host_ledger
-kept_all [] settled =
-    record {
-      sound = words_good fresh;
-      same = book_at_start ∙ sym (book_back fresh kept_fresh.long.month kept_fresh.long.year);
-      ledger = tt;
-    }
-kept_all (entry ∷ past) settled = kept_next entry past (kept_all past settled.1) settled.0
+      more_next : (wrong : Bool) → is_wrong_report settled_words (length entry.report) ≡ wrong
+          → IsLedger year (cond wrong (host_ledger past) (entry_of entry ∷ host_ledger past))
+      more_next true wrong = kept.ledger
+      more_next false fits = (
+        subst (λ (b : Book). Answered entry.call b entry.lent (entry_of entry).result entry.written) (sym kept.same)
+            (is_entry entry (words_at year past) kept.sound settles (within past kept) fits),
+        kept.ledger,
+      )
 
--- what a host reads off its calls is the ledger of those calls, so the claim holds of it; and its book is the one that the words stand for
-pub host_claim : (list : List HostEntry) → IsHostList list
-    → (host_ledger list ≡ ledger_of (map asked (host_ledger list))) × Claim (host_ledger list) × (book_at (host_ledger list) ≡ book_from (words_at list))
-host_claim list settled =
-    let kept = kept_all list settled in
-    let is = only_ledger (map asked (host_ledger list)) (host_ledger list) kept.ledger refl in
-    (is, subst Claim (sym is) (claim (map asked (host_ledger list))), kept.same)
+  host_kept : (list : List HostEntry) → IsHostList year list → HostKept list
+  unfolding words_at host_ledger
+  host_kept [] settled =
+      let start = (kept_fresh year in_range).long in
+      record {
+        sound = words_good (fresh year);
+        same = book_at_start year ∙ sym (book_back (fresh year) start.month start.year);
+        ledger = tt;
+      }
+  host_kept (entry ∷ past) settled = host_next entry past (host_kept past settled.1) settled.0
+
+  -- what a host reads off its calls is the ledger of those calls, so the claim holds of it; and its book is the one that the words stand
+  -- for
+  pub host_claim : (list : List HostEntry) → IsHostList year list
+      → (host_ledger list ≡ ledger_of year (map asked (host_ledger list)))
+      × Claim year (host_ledger list)
+      × (book_at year (host_ledger list) ≡ book_from (words_at year list))
+  host_claim list settled =
+      let kept = host_kept list settled in
+      let is = only_ledger year (map asked (host_ledger list)) (host_ledger list) kept.ledger refl in
+      (is, subst (Claim year) (sym is) (claim year in_range (map asked (host_ledger list))), kept.same)
+
+  -- an accepted opening leaves the words that such a list begins with
+  pub opened_words : (words : BookWords) → is_wrong_count words ≡ false → words_opened year words ≡ words_at year []
+  unfolding words_at
+  opened_words words right = sym (opened_written year words right) ∙ ap words_of (opened_fresh year in_range)

@@ -7,25 +7,22 @@ use mathlib.Core.List.{List, [], ◌∷◌, ◌++◌, append-nil}
 use native.Mathlib.Omega.{arith}
 use lib.ListN.{length, drop, drop_of_length-le}
 use lib.Seq.{sets, sets-eq}
-use mir.Val.{bool_byte}
 use borrow.Author.Tests.{eq-eqb, ne_eqb}
-use Rattle.numbers.specs.Refusals.{answer_by, answered, answer_record}
-use Rattle.numbers.proofs.Refusals.{refusal_none, refusal_here, refusal_next, number_answered, record_answered}
+use Rattle.numbers.specs.Refusals.{answer_by, answered, answer_record, first_refusal}
+use Rattle.numbers.proofs.Refusals.{refusal_none, refusal_here, refusal_next, number_answered, record_answered, value_answered}
 use Rattle.std.specs.Prelude.{Result, Ok, Err, MatchResult}
 use Rattle.std.specs.Result.{result_unwrap_or}
 use Rattle.numbers.specs.declared.refusal.Refusal.{Refusal}
-use Rattle.calendar.proofs.Hours.{calendar_most}
+use Rattle.calendar.proofs.Hours.{calendar_number, refusal_no_year}
+use Rattle.calendar.proofs.DayTable.{table_number, table_no_year_number}
+use Rattle.calendar.specs.Almanac.{is_outside}
 use Rattle.rights.proofs.Faults.{faulty_other}
-use Rattle.rights.proofs.Readings.{read_number}
+use Rattle.rights.proofs.Readings.{read_number, read_no_year}
+use Rattle.rights.proofs.Steps.{step_no_year}
 use Rattle.split.proofs.Answers.{split_number, left_or_none}
-use Rattle.target.proofs.Bounds.{call_most}
+use Rattle.target.proofs.Bounds.{call_number, call_no_year}
 use Rattle.rights.specs.Faults.{faulty_record}
-use Rattle.pupcopper.specs.Calls.{number_of, is_wrong_report, report_refusal, outcome_words}
-
--- a flag as a number
-pub flag_byte : (flag : Bool) → bool_byte flag ≡ cond flag 1 0
-flag_byte true = refl
-flag_byte false = refl
+use Rattle.pupcopper.specs.Calls.{number_of, is_wrong_report, report_refusal, dated_refusal, outcome_words}
 
 -- the words of what a call answers, or zeros, are those of what a host is promised
 pub value_words : {A : Type 0} (report : A → List ℕ) (none : A) {outcome answer : Result A Refusal} {value : A} {words : List ℕ}
@@ -68,6 +65,32 @@ module _ (words report : ℕ) where
   pub right_given : {A : Type 0} (given before : A) → report ≡ words → given ≡ answer_by (report_refusal words report) given before
   right_given given before is = sym (ap (λ (own : ℕ). answer_by own given before) (right_0 is))
 
+-- of a call that is given a year: 15, then 4 for its report, then the library's, which gives 15 for such a year too
+module _ (year words report : ℕ) where
+  dated_wrong : (report ≡ words → ⊥) → dated_refusal year words report ≡ cond (is_outside year) 15 4
+  unfolding dated_refusal first_refusal
+  dated_wrong other = rw (report_wrong words report other)
+
+  dated_right : report ≡ words → dated_refusal year words report ≡ cond (is_outside year) 15 0
+  unfolding dated_refusal first_refusal
+  dated_right is = rw (report_fits words report is)
+
+  pub dated_wrong_number : (called : ℕ) {number : ℕ} → (report ≡ words → ⊥) → number ≡ cond (is_outside year) 15 4
+      → number ≡ number_of (dated_refusal year words report) called
+  dated_wrong_number called other is = is ∙ by_outside (is_outside year) ∙ sym (ap (λ (own : ℕ). number_of own called) (dated_wrong other))
+    where
+      by_outside : (outside : Bool) → cond outside 15 4 ≡ number_of (cond outside 15 4) called
+      by_outside true = refl
+      by_outside false = refl
+
+  pub dated_right_number : (called : ℕ) → report ≡ words → (is_outside year ≡ true → called ≡ 15)
+      → called ≡ number_of (dated_refusal year words report) called
+  dated_right_number called is same = by_outside (is_outside year) same ∙ sym (ap (λ (own : ℕ). number_of own called) (dated_right is))
+    where
+      by_outside : (outside : Bool) → (outside ≡ true → called ≡ 15) → called ≡ number_of (cond outside 15 0) called
+      by_outside true same = same refl
+      by_outside false same = refl
+
 -- words written one after another from a list's start: those, and what was behind them
 pub written : {A : Type 0} (values before : List A) → length values ≤ length before
     → sets before 0 values ≡ values ++ drop (length values) before
@@ -90,12 +113,12 @@ pub word_reported : (report : List ℕ) (word : ℕ) → length report ≡ 1
 word_reported report word fits = written_all (word ∷ []) report fits ∙ right_given 1 (length report) _ _ fits
 
 -- that of a target call and of a row call: the record that the outcome names
-pub outcome_reported : (prices : ℕ) (file report : List ℕ) (refusal names : ℕ) → length report ≡ outcome_words
-    → names ≡ answer_record {A = Unit {0}} (answered refusal (faulty_record prices file refusal) tt)
-    → sets report 0 (names ∷ []) ≡ answer_by (report_refusal outcome_words (length report)) (faulty_record prices file refusal ∷ []) report
-outcome_reported prices file report refusal names fits named =
-    let faulty = named ∙ record_answered refusal _ tt (faulty_other prices file refusal) in
-    ap (λ (word : ℕ). sets report 0 (word ∷ [])) faulty ∙ word_reported report (faulty_record prices file refusal) fits
+pub outcome_reported : (year prices : ℕ) (file report : List ℕ) (refusal names : ℕ) → length report ≡ outcome_words
+    → names ≡ answer_record {A = Unit {0}} (answered refusal (faulty_record year prices file refusal) tt)
+    → sets report 0 (names ∷ []) ≡ answer_by (report_refusal outcome_words (length report)) (faulty_record year prices file refusal ∷ []) report
+outcome_reported year prices file report refusal names fits named =
+    let faulty = named ∙ record_answered refusal _ tt (faulty_other year prices file refusal) in
+    ap (λ (word : ℕ). sets report 0 (word ∷ [])) faulty ∙ word_reported report (faulty_record year prices file refusal) fits
 
 -- a call handed on: its number and what it writes, by the length of its report
-pub ruleset handed_on = (wrong_number, wrong_kept, right_number, right_given, number_answered, word_reported, outcome_reported, calendar_most, read_number, call_most, split_number, left_or_none)
+pub ruleset handed_on = (wrong_number, wrong_kept, right_number, right_given, dated_wrong_number, dated_right_number, number_answered, word_reported, outcome_reported, calendar_number, refusal_no_year, table_number, table_no_year_number, value_answered, read_number, read_no_year, step_no_year, call_number, call_no_year, split_number, left_or_none)

@@ -8,7 +8,7 @@ use lib.ListN.{length}
 use Rattle.numbers.specs.Limits.{owners}
 use Rattle.numbers.proofs.Refusals.{answer_refused}
 use Rattle.settlement.specs.declared.Book.{Book}
-use Rattle.settlement.specs.Book.{fresh}
+use Rattle.settlement.specs.Book.{opened}
 use Rattle.settlement.specs.Events.{Call, refusal, book_after}
 use Rattle.settlement.proofs.Amounts.{small_amounts}
 use Rattle.settlement_run.specs.declared.Run.{Run}
@@ -19,6 +19,7 @@ use Rattle.pupcopper.specs.Calls.{words_refusal}
 use Rattle.pupcopper.specs.InnerContracts.{SurplusesFit}
 use Rattle.pupcopper.proofs.WordRows.{given_book, refused_number, words_clear}
 use Rattle.pupcopper.specs.RunCalls.{HostSteps, reported, run_from, run_of, stepped_report, stepped_words}
+use mathlib.Core.Bool.{true}
 
 -- the surpluses that an accepted call leaves are small
 surpluses_keep : (call : Call) (book : Book) → refusal call book owners ≡ 0 → SurplusesFit book → SurplusesFit (book_after call book)
@@ -36,8 +37,8 @@ step_fits = steps_keep SurplusesFit surpluses_keep
 
 -- a step that is refused by its words: the run that stands at them is told, and nothing else is written
 pub refused_step : (file block : List ℕ) (words : BookWords) (before : List ℕ) (end : ℕ) (report : List ℕ) {given : ℕ} {report_after : List ℕ}
-    → given ≡ words_refusal stepped_words words (length report) → 0 < words_refusal stepped_words words (length report)
-    → report_after ≡ reported stepped_words report (stepped_report (run_of fresh 0 end))
+    → given ≡ words_refusal true stepped_words words (length report) → 0 < words_refusal true stepped_words words (length report)
+    → report_after ≡ reported stepped_words report (stepped_report (run_of (opened 0) 0 end))
     → HostSteps file block words before end report given words before report_after
 refused_step file block words before end report is some told =
     record {
@@ -48,7 +49,7 @@ refused_step file block words before end report is some told =
     }
   where
     own : ℕ
-    own = words_refusal stepped_words words (length report)
+    own = words_refusal true stepped_words words (length report)
 
     none : own ≡ 0 → ⊥
     none z = omega arith

@@ -16,9 +16,9 @@ pub record BookWords : Type 0 where
 abbrev pub words_in : List ℕ → List ℕ → List ℤ → BookWords
 words_in counts shortfalls surpluses = record { counts = counts; shortfalls = shortfalls; surpluses = surpluses }
 
--- how many words each has: the hours settled, the months closed and the mark; two for each owner; the month's and the year's
+-- how many words each has: the hours settled, the months closed, the mark and the year; two for each owner; the month's and the year's
 abbrev pub count_words : ℕ
-count_words = 3
+count_words = 4
 
 abbrev pub shortfall_words : ℕ
 shortfall_words = 2 * owners
@@ -28,9 +28,9 @@ surplus_words = 2
 
 -- ---- from a book to its words
 
--- the hours settled, the months closed, and the mark: 1 if the book is ended, else 0
+-- the hours settled, the months closed, the mark: 1 if the book is ended, else 0; and the year
 unfoldable pub counts_of : Book → List ℕ
-counts_of book = book.hours ∷ book.months ∷ cond book.ended 1 0 ∷ []
+counts_of book = book.hours ∷ book.months ∷ cond book.ended 1 0 ∷ book.year ∷ []
 
 -- "owner i at 2 times i for the month and the next cell for the year": the cell at a place
 abbrev pub cell_at : List ℕ → List ℕ → ℕ → ℕ
@@ -51,6 +51,9 @@ words_of book = words_in (counts_of book) (by_owner book.monthshort book.yearsho
 abbrev pub mark_in : BookWords → ℕ
 mark_in words = get_or words.counts 2 0
 
+abbrev pub year_in : BookWords → ℕ
+year_in words = get_or words.counts 3 0
+
 -- the cells of all owners: the month's from place 0 on, the year's from place 1 on
 unfoldable pub cells_from : List ℕ → ℕ → List ℕ
 cells_from shortfalls start = list_below (λ owner. get_or shortfalls (2 * owner + start) 0) owners
@@ -62,6 +65,7 @@ surplus_in words place = get_or words.surpluses place (pos 0)
 unfoldable pub book_from : BookWords → Book
 book_from words =
     record {
+      year = year_in words;
       hours = get_or words.counts 0 0;
       months = get_or words.counts 1 0;
       ended = eqb (mark_in words) 1;
@@ -80,6 +84,10 @@ is_no_book counts shortfalls surpluses =
 
 abbrev pub is_wrong_count : BookWords → Bool
 is_wrong_count words = is_no_book (length words.counts) (length words.shortfalls) (length words.surpluses)
+
+-- counts of another number of words have no year to look at
+abbrev pub has_no_year : BookWords → Bool
+has_no_year words = not (eqb (length words.counts) count_words)
 
 -- the mark is neither 0 nor 1
 abbrev pub is_wrong_mark : BookWords → Bool

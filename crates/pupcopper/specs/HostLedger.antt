@@ -18,17 +18,17 @@ pub record HostEntry : Type 0 where
   pub reported : List ℤ
   pub written : List ℤ
 
--- the words after a list of calls, newest first: those of a fresh book, and then those that the call before left
-unfoldable pub words_at : List HostEntry → BookWords
-words_at [] = words_of fresh
-words_at (entry ∷ past) = entry.words
+-- the words after a list of calls, newest first: those of a fresh book of the year, and then those that the call before left
+unfoldable pub words_at : ℕ → List HostEntry → BookWords
+words_at year [] = words_of (fresh year)
+words_at year (entry ∷ past) = entry.words
 
 -- each call is answered, as the calls' contracts say, on the words that the calls below it left
-abbrev pub IsHostList : List HostEntry → Type 0
-IsHostList [] = Unit {0}
-IsHostList (entry ∷ past) =
-    Settles entry.call (words_at past) entry.report entry.lent entry.number entry.words entry.reported entry.written
-    × IsHostList past
+abbrev pub IsHostList : ℕ → List HostEntry → Type 0
+IsHostList year [] = Unit {0}
+IsHostList year (entry ∷ past) =
+    Settles entry.call (words_at year past) entry.report entry.lent entry.number entry.words entry.reported entry.written
+    × IsHostList year past
 
 -- a number in a report
 abbrev pub word_in : List ℤ → ℕ → ℕ

@@ -1,6 +1,6 @@
 -- What the calls of a run give to a host that keeps the book's words and the text: a step on the next block, the closing.
 -- Assumes nothing.
-use Rattle.std.specs.Prelude.{ℕ, ◌≡◌, false, cond, List, [], ◌∷◌, length}
+use Rattle.std.specs.Prelude.{ℕ, ◌≡◌, true, false, cond, List, [], ◌∷◌, length}
 use Rattle.numbers.specs.Refusals.{answer_by}
 use Rattle.statement_text.specs.Buffer.{text_after}
 use Rattle.statement_text.specs.Text.{line_room}
@@ -40,24 +40,24 @@ reported places before report = cond (is_wrong_report places (length before)) be
 -- a step: the library's on the run that stands at the host's words; that run itself where the words are refused
 abbrev pub host_step : List ℕ → List ℕ → BookWords → List ℕ → ℕ → ℕ → Run
 host_step file block words before end report =
-    answer_by (words_refusal stepped_words words report) (stepped_run file block (run_from words 0 end) before) (run_from words 0 end)
+    answer_by (words_refusal true stepped_words words report) (stepped_run file block (run_from words 0 end) before) (run_from words 0 end)
 
 -- what it promises, for any words, any bytes as rights and as block, any text, any end and any report
 pub record HostSteps (file block : List ℕ) (words : BookWords) (before : List ℕ) (end : ℕ) (report : List ℕ) (given : ℕ)
     (words_after : BookWords) (after report_after : List ℕ) : Type 0 where
   pub number : given
-      ≡ number_of (words_refusal stepped_words words (length report)) (host_step file block words before end (length report)).refusal
+      ≡ number_of (words_refusal true stepped_words words (length report)) (host_step file block words before end (length report)).refusal
   pub reports : report_after ≡ reported stepped_words report (stepped_report (host_step file block words before end (length report)))
   pub gives_book : words_after
-      ≡ answer_by (words_refusal stepped_words words (length report)) (words_of (host_step file block words before end (length report)).book) words
+      ≡ answer_by (words_refusal true stepped_words words (length report)) (words_of (host_step file block words before end (length report)).book) words
   pub writes : after
-      ≡ answer_by (words_refusal stepped_words words (length report)) (stepped_text file block (run_from words 0 end) before) before
+      ≡ answer_by (words_refusal true stepped_words words (length report)) (stepped_text file block (run_from words 0 end) before) before
 
 -- the closing: the last line of the run that stands at the host's words, with the refusal that stopped it or 0
 abbrev pub closing_run : BookWords → ℕ → List ℕ → ℕ → ℕ → Run
 closing_run words refusal before end report =
-    answer_by (words_refusal closed_words words report) (closed (run_from words refusal end) before) (run_from words refusal end)
+    answer_by (words_refusal false closed_words words report) (closed (run_from words refusal end) before) (run_from words refusal end)
 
 abbrev pub closing_text : BookWords → ℕ → List ℕ → ℕ → ℕ → List ℕ
 closing_text words refusal before end report =
-    answer_by (words_refusal closed_words words report) (text_after line_room (last_text (run_from words refusal end)) before end) before
+    answer_by (words_refusal false closed_words words report) (text_after line_room (last_text (run_from words refusal end)) before end) before

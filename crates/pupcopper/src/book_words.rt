@@ -12,8 +12,8 @@ use numbers::{OWNERS, Refusal};
 use settlement::{Book, Settled};
 use std::array;
 
-// The words of each: hours, months and mark; two for each owner; the month's and the year's.
-const COUNT_WORDS: usize = 3;
+// The words of each: hours, months, mark and year; two for each owner; the month's and the year's.
+const COUNT_WORDS: usize = 4;
 
 const SHORTFALL_WORDS: usize = 2 * OWNERS;
 
@@ -37,12 +37,19 @@ impl BookWords<'_> {
             & (self.surpluses.len() == SURPLUS_WORDS))
     }
 
-    // The book that the words stand for, or what they and a report that should have so many places call for before there is one: 4 or 1.
+    // The book that the words stand for, or what they and a report that should have so many places call for before there is one: 4, 15 or
+    // 1. `dated` is whether the call knows the calendar, so that it looks at the year.
     #[tactic(auto, using(crate::proofs::WordRows::rows), unfolding(crate::specs::BookWords::book_from))]
-    pub(crate) fn book(&self, report: usize, places: usize) -> Result<Book, Refusal>
-        ensures value { result ≡ answered (words_refusal places (words_read self.now) report) 0 (book_from (words_read self.now)) }
+    pub(crate) fn book(&self, dated: bool, report: usize, places: usize) -> Result<Book, Refusal>
+        ensures value { result ≡ answered (words_refusal dated places (words_read self.now) report) 0 (book_from (words_read self.now)) }
         ensures surpluses_fit { IfOk result (λ book. SurplusesFit book) }
     {
+        if self.counts.len() != COUNT_WORDS {
+            return Err(Refusal::WrongLength);
+        }
+        if dated & calendar::is_outside(self.counts[3]) {
+            return Err(Refusal::NoSuchYear);
+        }
         if self.is_no_book() {
             return Err(Refusal::WrongLength);
         }
@@ -56,6 +63,7 @@ impl BookWords<'_> {
             return Err(Refusal::SpoiledBook);
         }
         Ok(Book {
+            year: self.counts[3],
             hours: self.counts[0],
             months: self.counts[1],
             ended: self.counts[2] == 1,
@@ -104,8 +112,7 @@ impl LentBook<'_> {
         ensures words_after { words_lent self.new ≡ words_of book }
         ensures same_slices { SameSlices self.old self.new }
     {
-        self.counts
-            .copy_from_slice(&[book.hours, book.months, u64::from(book.ended)]);
+        self.counts.copy_from_slice(&[book.hours, book.months, u64::from(book.ended), book.year]);
         write_cells(&book.monthshort, &book.yearshort, self.shortfalls);
         self.surpluses.copy_from_slice(&[
             book.monthsurplus.cast_signed(),
@@ -128,7 +135,10 @@ impl LentBook<'_> {
         ensures settles { Settles call (words_lent self.old) report.old lines.old result (words_lent self.new) report.new lines.new }
         ensures same_slices { SameSlices self.old self.new }
     {
-        match self.words().book(report.len(), reports::SETTLED_WORDS) {
+        match self
+            .words()
+            .book(true, report.len(), reports::SETTLED_WORDS)
+        {
             Ok(book) => {
                 let settled = event(book, lines);
                 self.give_back(settled, report)

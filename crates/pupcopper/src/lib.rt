@@ -5,22 +5,22 @@
 
 #![tactic(auto)]
 
-ghost use Rattle.std.specs.Prelude.{◌≡◌, [], ◌∷◌, length};
+ghost use Rattle.std.specs.Prelude.{◌≡◌, false, [], ◌∷◌, length};
 ghost use Rattle.numbers.specs.Refusals.{answer_by};
-ghost use Rattle.calendar.specs.Year.{calendar_refusal, operating_hour};
+ghost use Rattle.calendar.specs.Almanac.{days_in_year};
+ghost use Rattle.calendar.specs.Year.{calendar_refusal, operating_hour, table_after, table_refusal};
 ghost use Rattle.rights.specs.Layout.{reading};
 ghost use Rattle.rights.specs.Faults.{faulty_record};
 ghost use Rattle.split.specs.Split.{left, limits_of, payments_after, split_refusal};
 ghost use Rattle.target.specs.Rounding.{round_tenths};
 ghost use Rattle.target.specs.Rows.{row_lines, rows_refusal};
 ghost use Rattle.target.specs.Target.{target_lines, target_refusal};
-ghost use Rattle.settlement.specs.Book.{fresh as freshBook};
 ghost use Rattle.settlement.specs.Events.{hour_call, month_end_call, year_end_call};
 ghost use Rattle.statement_text.specs.Buffer.{end_after, text_after};
 ghost use Rattle.statement_text.specs.Sentence.{sentence, sentence_room};
 ghost use Rattle.pupcopper.specs.Billing.{billing_class};
-ghost use Rattle.pupcopper.specs.BookWords.{words_in, words_of};
-ghost use Rattle.pupcopper.specs.Calls.{number_of, report_refusal, hour_words, hour_report, right_words, right_report, step_words, step_report, step_refusal, outcome_words, allocation_words, open_refusal, words_refusal, Settles};
+ghost use Rattle.pupcopper.specs.BookWords.{words_in};
+ghost use Rattle.pupcopper.specs.Calls.{number_of, report_refusal, dated_refusal, hour_words, hour_report, table_words, right_words, right_report, step_words, step_report, step_refusal, outcome_words, allocation_words, open_refusal, words_opened, words_refusal, Settles};
 ghost use Rattle.pupcopper.specs.RunCalls.{HostSteps, closed_words, closed_report, closing_run, closing_text, reported};
 
 use book_words::{BookWords, LentBook};
@@ -35,13 +35,13 @@ mod runs;
 
 // ---- numbers only, for the billing host
 
-// An hour number to twice its month, plus 1 in a peak hour; 255 for an hour that the year has not.
+// An hour number of a year to twice its month, plus 1 in a peak hour; 255 for an hour that the year has not, and for no such year.
 #[unsafe(no_mangle)]
 #[tactic(auto, using(crate::proofs::Class::class_laws))]
-pub extern "C" fn pupcopper_class(hour: u64) -> u8
-    ensures { result ≡ billing_class hour }
+pub extern "C" fn pupcopper_class(year: u64, hour: u64) -> u8
+    ensures { result ≡ billing_class year hour }
 {
-    match calendar::operating_hour(hour) {
+    match calendar::operating_hour(year, hour) {
         Ok(found) => 2 * found.month + u8::from(found.peak),
         Err(_) => 255,
     }
@@ -55,34 +55,50 @@ pub extern "C" fn pupcopper_cents(tenths: i64) -> i64
     target::round_tenths(tenths)
 }
 
-// ---- calls without a book: a report of another length is 4 before all else, and then nothing is written
+// ---- calls without a book: a report of another length is 4 before all else but 15, and then nothing is written
 
 // The calendar call. The report gets the day, the month, and 1 in a peak hour.
 #[unsafe(no_mangle)]
 #[tactic(auto, using(crate::proofs::ReportWords::handed_on))]
-pub extern "C" fn pupcopper_calendar(hour: u64, report: &mut [u64]) -> u8
-    ensures value { result ≡ number_of (report_refusal hour_words (length report.old)) (calendar_refusal hour) }
-    ensures report_after { report.new ≡ answer_by (report_refusal hour_words (length report.old)) (hour_report (operating_hour hour)) report.old }
+pub extern "C" fn pupcopper_calendar(year: u64, hour: u64, report: &mut [u64]) -> u8
+    ensures value { result ≡ number_of (dated_refusal year hour_words (length report.old)) (calendar_refusal year hour) }
+    ensures report_after { report.new ≡ answer_by (report_refusal hour_words (length report.old)) (hour_report (operating_hour year hour)) report.old }
 {
     if report.len() != reports::HOUR_WORDS {
-        return Refusal::WrongLength.number();
+        return reports::wrong_length(year);
     }
-    let outcome = calendar::operating_hour(hour);
+    let outcome = calendar::operating_hour(year, hour);
     report.copy_from_slice(&outcome.map_or([0; reports::HOUR_WORDS], reports::of_hour));
+    reports::number_of(outcome)
+}
+
+// The day table of a year. The report gets the number of its days.
+#[unsafe(no_mangle)]
+#[tactic(auto, using(crate::proofs::ReportWords::handed_on))]
+pub extern "C" fn pupcopper_days(year: u64, table: &mut [u8], report: &mut [u64]) -> u8
+    ensures value { result ≡ number_of (dated_refusal year table_words (length report.old)) (table_refusal year (length table.old)) }
+    ensures table_after { table.new ≡ answer_by (report_refusal table_words (length report.old)) (table_after year table.old) table.old }
+    ensures report_after { report.new ≡ answer_by (report_refusal table_words (length report.old)) (answer_by (table_refusal year (length table.old)) (days_in_year year) 0 ∷ []) report.old }
+{
+    if report.len() != reports::TABLE_WORDS {
+        return reports::wrong_length(year);
+    }
+    let outcome = calendar::day_table(year, table);
+    report[0] = outcome.unwrap_or(0);
     reports::number_of(outcome)
 }
 
 // The read by record number. The report gets the eight fields.
 #[unsafe(no_mangle)]
 #[tactic(auto, using(crate::proofs::ReportWords::handed_on))]
-pub extern "C" fn pupcopper_read(rights: &[u8], number: u64, report: &mut [u64]) -> u8
-    ensures value { result ≡ number_of (report_refusal right_words (length report.old)) (reading rights.now number).refusal }
-    ensures report_after { report.new ≡ answer_by (report_refusal right_words (length report.old)) (right_report (reading rights.now number).right) report.old }
+pub extern "C" fn pupcopper_read(year: u64, rights: &[u8], number: u64, report: &mut [u64]) -> u8
+    ensures value { result ≡ number_of (dated_refusal year right_words (length report.old)) (reading year rights.now number).refusal }
+    ensures report_after { report.new ≡ answer_by (report_refusal right_words (length report.old)) (right_report (reading year rights.now number).right) report.old }
 {
     if report.len() != reports::RIGHT_WORDS {
-        return Refusal::WrongLength.number();
+        return reports::wrong_length(year);
     }
-    let outcome = rights::read(rights, number);
+    let outcome = rights::read(year, rights, number);
     report.copy_from_slice(&outcome.map_or([0; reports::RIGHT_WORDS], reports::of_right));
     reports::number_of(outcome)
 }
@@ -90,14 +106,18 @@ pub extern "C" fn pupcopper_read(rights: &[u8], number: u64, report: &mut [u64])
 // A reader's step from a record number. The report gets the eight fields, the number to go on with, and 1 if no record is left.
 #[unsafe(no_mangle)]
 #[tactic(auto, using(crate::proofs::ReportWords::handed_on))]
-pub extern "C" fn pupcopper_next(rights: &[u8], next: u64, report: &mut [u64]) -> u8
-    ensures value { result ≡ number_of (report_refusal step_words (length report.old)) (step_refusal rights.now next) }
-    ensures report_after { report.new ≡ answer_by (report_refusal step_words (length report.old)) (step_report rights.now next) report.old }
+pub extern "C" fn pupcopper_next(year: u64, rights: &[u8], next: u64, report: &mut [u64]) -> u8
+    ensures value { result ≡ number_of (dated_refusal year step_words (length report.old)) (step_refusal year rights.now next) }
+    ensures report_after { report.new ≡ answer_by (report_refusal step_words (length report.old)) (step_report year rights.now next) report.old }
 {
     if report.len() != reports::STEP_WORDS {
-        return Refusal::WrongLength.number();
+        return reports::wrong_length(year);
     }
-    let mut reader = Reader { file: rights, next };
+    let mut reader = Reader {
+        year,
+        file: rights,
+        next,
+    };
     let given = reader.next();
     report.copy_from_slice(&reports::of_step(given, reader.next));
     given.map_or(0, reports::number_of)
@@ -107,20 +127,21 @@ pub extern "C" fn pupcopper_next(rights: &[u8], next: u64, report: &mut [u64]) -
 #[unsafe(no_mangle)]
 #[tactic(auto, using(crate::proofs::ReportWords::handed_on))]
 pub extern "C" fn pupcopper_targets(
+    year: u64,
     rights: &[u8],
     prices: &[i32],
     hour: u64,
     lines: &mut [i64],
     report: &mut [u64],
 ) -> u8
-    ensures value { result ≡ number_of (report_refusal outcome_words (length report.old)) (target_refusal rights.now prices.now hour (length lines.old)) }
-    ensures lines_after { lines.new ≡ answer_by (report_refusal outcome_words (length report.old)) (target_lines rights.now prices.now hour lines.old) lines.old }
-    ensures report_after { report.new ≡ answer_by (report_refusal outcome_words (length report.old)) (faulty_record (length prices.now) rights.now (target_refusal rights.now prices.now hour (length lines.old)) ∷ []) report.old }
+    ensures value { result ≡ number_of (dated_refusal year outcome_words (length report.old)) (target_refusal year rights.now prices.now hour (length lines.old)) }
+    ensures lines_after { lines.new ≡ answer_by (report_refusal outcome_words (length report.old)) (target_lines year rights.now prices.now hour lines.old) lines.old }
+    ensures report_after { report.new ≡ answer_by (report_refusal outcome_words (length report.old)) (faulty_record year (length prices.now) rights.now (target_refusal year rights.now prices.now hour (length lines.old)) ∷ []) report.old }
 {
     if report.len() != reports::OUTCOME_WORDS {
-        return Refusal::WrongLength.number();
+        return reports::wrong_length(year);
     }
-    let outcome = target::targets(rights, prices, hour, lines);
+    let outcome = target::targets(year, rights, prices, hour, lines);
     report[0] = reports::record_of(outcome);
     reports::number_of(outcome)
 }
@@ -129,20 +150,21 @@ pub extern "C" fn pupcopper_targets(
 #[unsafe(no_mangle)]
 #[tactic(auto, using(crate::proofs::ReportWords::handed_on))]
 pub extern "C" fn pupcopper_rows(
+    year: u64,
     rights: &[u8],
     prices: &[i32],
     hour: u64,
     lines: &mut [i64],
     report: &mut [u64],
 ) -> u8
-    ensures value { result ≡ number_of (report_refusal outcome_words (length report.old)) (rows_refusal rights.now prices.now hour (length lines.old)) }
-    ensures lines_after { lines.new ≡ answer_by (report_refusal outcome_words (length report.old)) (row_lines rights.now prices.now hour lines.old) lines.old }
-    ensures report_after { report.new ≡ answer_by (report_refusal outcome_words (length report.old)) (faulty_record (length prices.now) rights.now (rows_refusal rights.now prices.now hour (length lines.old)) ∷ []) report.old }
+    ensures value { result ≡ number_of (dated_refusal year outcome_words (length report.old)) (rows_refusal year rights.now prices.now hour (length lines.old)) }
+    ensures lines_after { lines.new ≡ answer_by (report_refusal outcome_words (length report.old)) (row_lines year rights.now prices.now hour lines.old) lines.old }
+    ensures report_after { report.new ≡ answer_by (report_refusal outcome_words (length report.old)) (faulty_record year (length prices.now) rights.now (rows_refusal year rights.now prices.now hour (length lines.old)) ∷ []) report.old }
 {
     if report.len() != reports::OUTCOME_WORDS {
-        return Refusal::WrongLength.number();
+        return reports::wrong_length(year);
     }
-    let outcome = target::rows(rights, prices, hour, lines);
+    let outcome = target::rows(year, rights, prices, hour, lines);
     report[0] = reports::record_of(outcome);
     reports::number_of(outcome)
 }
@@ -170,18 +192,19 @@ pub extern "C" fn pupcopper_split(
     reports::number_of(outcome)
 }
 
-// ---- the book, as three lent slices: its counts and mark, its shortfalls, its surpluses
+// ---- the book, as three lent slices: its counts, mark and year, its shortfalls, its surpluses
 
-// Writes a fresh book.
+// Writes the fresh book of a year, or a book all 0 where there is no such year.
 #[unsafe(no_mangle)]
-#[tactic(auto, using(crate::proofs::WordRows::open_wrong, crate::proofs::WordRows::open_right, settlement::proofs::Amounts::fresh_empty))]
+#[tactic(auto, using(crate::proofs::WordRows::open_laws))]
 pub extern "C" fn pupcopper_open(
+    year: u64,
     counts: &mut [u64],
     shortfalls: &mut [u64],
     surpluses: &mut [i64],
 ) -> u8
-    ensures value { result ≡ open_refusal (words_in counts.old shortfalls.old surpluses.old) }
-    ensures words_after { words_in counts.new shortfalls.new surpluses.new ≡ answer_by result (words_of freshBook) (words_in counts.old shortfalls.old surpluses.old) }
+    ensures value { result ≡ open_refusal year (words_in counts.old shortfalls.old surpluses.old) }
+    ensures words_after { words_in counts.new shortfalls.new surpluses.new ≡ words_opened year (words_in counts.old shortfalls.old surpluses.old) }
 {
     let mut lent = LentBook {
         counts,
@@ -189,10 +212,11 @@ pub extern "C" fn pupcopper_open(
         surpluses,
     };
     if lent.words().is_no_book() {
-        return Refusal::WrongLength.number();
+        return reports::wrong_length(year);
     }
-    lent.write(Book::fresh());
-    0
+    let opened = Book::open(year);
+    lent.write(opened.book);
+    reports::number_of(opened.outcome)
 }
 
 // Settles the next hour. The report gets the record number of 7 and 8, F and D.
@@ -283,7 +307,7 @@ pub extern "C" fn pupcopper_step(
         surpluses,
     };
     // This match stands in `pupcopper_closing` and in `LentBook::settle` too: each has other words to write, so that a shared function is no plainer.
-    match lent.words().book(report.len(), runs::STEPPED_WORDS) {
+    match lent.words().book(true, report.len(), runs::STEPPED_WORDS) {
         Ok(book) => {
             let run = runs::run_from(book, 0, end);
             let next = settlement_run::step(run, rights, block, text);
@@ -310,7 +334,7 @@ pub extern "C" fn pupcopper_closing(
     end: usize,
     report: &mut [u64],
 ) -> u8
-    ensures value { result ≡ words_refusal closed_words (words_in counts.now shortfalls.now surpluses.now) (length report.old) }
+    ensures value { result ≡ words_refusal false closed_words (words_in counts.now shortfalls.now surpluses.now) (length report.old) }
     ensures text_after { text.new ≡ closing_text (words_in counts.now shortfalls.now surpluses.now) refusal text.old end (length report.old) }
     ensures report_after { report.new ≡ reported closed_words report.old (closed_report (closing_run (words_in counts.now shortfalls.now surpluses.now) refusal text.old end (length report.old))) }
 {
@@ -319,7 +343,7 @@ pub extern "C" fn pupcopper_closing(
         shortfalls,
         surpluses,
     };
-    match words.book(report.len(), runs::CLOSED_WORDS) {
+    match words.book(false, report.len(), runs::CLOSED_WORDS) {
         Ok(book) => {
             let closed = settlement_run::closing(runs::run_from(book, refusal, end), text);
             reports::write(runs::of_closing(closed), report);

@@ -1,5 +1,6 @@
 // What a call gives beside its number, in words, written into its report.
 ghost use Rattle.std.specs.Prelude.{◌^◌, ◌<◌, ◌≡◌, cond, [], ◌∷◌, ◌++◌, length};
+ghost use Rattle.calendar.specs.Almanac.{is_outside};
 ghost use Rattle.numbers.specs.Refusals.{answer_number, answer_record};
 ghost use Rattle.rights.specs.Reader.{given_right, says_none};
 ghost use Rattle.pupcopper.specs.Calls.{hour_report, right_report, settled_report, is_wrong_report};
@@ -8,9 +9,11 @@ use calendar::OperatingHour;
 use numbers::Refusal;
 use rights::Right;
 
-// The words of each report: day, month and class; the eight fields; those, the next record number and whether none is left; the
+// The words of each report: day, month and class; the days of a year; the eight fields; those, the next record number and whether none is left; the
 // record number; what is left; the record number, F and D.
 pub(crate) const HOUR_WORDS: usize = 3;
+
+pub(crate) const TABLE_WORDS: usize = 1;
 
 pub(crate) const RIGHT_WORDS: usize = 8;
 
@@ -35,6 +38,16 @@ pub(crate) fn record_of<T: Copy>(outcome: Result<T, Refusal>) -> u64
     ensures { result ≡ answer_record outcome }
 {
     outcome.err().map_or(0, Refusal::record)
+}
+
+// The number of a wrong length in a call that is given a year: 15 comes before it.
+pub(crate) fn wrong_length(year: u64) -> u8
+    ensures { result ≡ cond (is_outside year) 15 4 }
+{
+    if calendar::is_outside(year) {
+        return Refusal::NoSuchYear.number();
+    }
+    Refusal::WrongLength.number()
 }
 
 // The words of an hour, and below of a right. By hand: there is no `From` between another crate's struct and an array.

@@ -1,6 +1,6 @@
 // A run from a host's book, and the words that say where it then stands.
 ghost use Rattle.std.specs.Prelude.{◌≡◌};
-ghost use Rattle.settlement.specs.Book.{fresh as freshBook};
+ghost use Rattle.settlement.specs.Book.{opened};
 ghost use Rattle.pupcopper.specs.RunCalls.{run_of, stepped_report, closed_report};
 
 use settlement::Book;
@@ -30,9 +30,9 @@ pub(crate) fn run_from(book: Book, refusal: u8, end: usize) -> Run
 
 // A run that did not move, for a report, which does not show the book.
 pub(crate) fn unmoved(end: usize) -> Run
-    ensures { result ≡ run_of freshBook 0 end }
+    ensures { result ≡ run_of (opened 0) 0 end }
 {
-    run_from(Book::fresh(), 0, end)
+    run_from(Book::open(0).book, 0, end)
 }
 
 // Where a step left the run.

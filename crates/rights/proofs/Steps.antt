@@ -1,9 +1,9 @@
--- A reader's step, case by case: over a file of wrong length, past the last record, at a good record and at a bad one. And that a
--- place has one step.
+-- A reader's step, case by case: for a year outside the calendar's, over a file of wrong length, past the last record, at a good record and at a
+-- bad one. And that a place has one step.
 -- Assumes nothing.
 use Prim.Native.Nat.{ℕ, ◌+◌, ◌≤◌, ◌<◌}
 use mathlib.Core.Path.{◌≡◌, refl, sym, ◌∙◌}
-use mathlib.Core.Bool.{Bool, true, false, cond, false≢true}
+use mathlib.Core.Bool.{Bool, true, false, cond, ◌||◌, false≢true}
 use mathlib.Core.List.{List}
 use lib.Dec.{eqb, leb}
 use lib.ListN.{length}
@@ -11,19 +11,20 @@ use borrow.Author.Tests.{le-leb, lt-leb, leb-true, leb-false, ne_eqb}
 use Rattle.rights.specs.declared.Right.{Right}
 use Rattle.std.specs.Prelude.{Result, Some, None, Ok, Err}
 use Rattle.numbers.specs.declared.refusal.Refusal.{Refusal}
-use Rattle.numbers.specs.declared.refusal.Refusal.TheVariants.{WrongLength, BadRight}
+use Rattle.numbers.specs.declared.refusal.Refusal.TheVariants.{WrongLength, BadRight, NoSuchYear}
 use Rattle.numbers.specs.Refusals.{first_refusal, answered, number_in, refusal_of}
 use Rattle.numbers.proofs.Refusals.{refusal_is, number_some}
+use Rattle.calendar.specs.Almanac.{is_outside, days_in_year}
 use Rattle.rights.specs.Layout.{Reading, record_count, right_at, is_good, is_wrong_length, read_refusal, refused_reading, reading}
 use Rattle.rights.specs.Reader.{Given, given_number, given_right, given_faulty, says_none, is_finished, next_after, IsStep}
 use Rattle.rights.proofs.Readings.{read_good, read_bad, answered_good, answered_bad}
 
-module _ (file : List ℕ) (next : ℕ) where
+module _ (year : ℕ) (file : List ℕ) (next : ℕ) where
   -- a step, from whether the reader has finished and what the read by its number gives
-  step_of : {given : Given} {after : ℕ} (finished : Bool) (read : Reading) → is_finished file next ≡ finished → reading file next ≡ read
+  step_of : {given : Given} {after : ℕ} (finished : Bool) (read : Reading) → is_finished year file next ≡ finished → reading year file next ≡ read
       → says_none given ≡ finished → given_number given ≡ cond finished 0 read.refusal → given_right given ≡ read.right
-      → given_faulty given ≡ cond (eqb read.refusal 7) next 0 → after ≡ cond (eqb read.refusal 4) next (next + 1)
-      → IsStep file next given after
+      → given_faulty given ≡ cond (eqb read.refusal 7) next 0 → after ≡ cond (eqb read.refusal 15 || eqb read.refusal 4) next (next + 1)
+      → IsStep year file next given after
   unfolding next_after
   step_of finished read f r none number right faulty moves =
       record {
@@ -31,58 +32,75 @@ module _ (file : List ℕ) (next : ℕ) where
         number = number ∙ sym (λ i. cond (f i) 0 (r i).refusal);
         right = right ∙ sym (λ i. (r i).right);
         faulty = faulty ∙ sym (λ i. cond (eqb (r i).refusal 7) next 0);
-        moves = moves ∙ sym (λ i. cond (eqb (r i).refusal 4) next (next + 1));
+        moves = moves ∙ sym (λ i. cond (eqb (r i).refusal 15 || eqb (r i).refusal 4) next (next + 1));
       }
 
-  read_wrong : is_wrong_length (length file) ≡ true → reading file next ≡ refused_reading 4
-  unfolding reading read_refusal first_refusal
-  read_wrong wrong = rw wrong
-
-  finished_wrong : is_wrong_length (length file) ≡ true → is_finished file next ≡ false
-  unfolding is_finished
-  finished_wrong wrong = rw wrong
-
-  pub step_wrong : is_wrong_length (length file) ≡ true → IsStep file next (Some (Err WrongLength)) next
-  step_wrong wrong = step_of false (refused_reading 4) (finished_wrong wrong) (read_wrong wrong) refl refl refl refl refl
-
-  module _ (right : is_wrong_length (length file) ≡ false) where
-    read_past : record_count file ≤ next → reading file next ≡ refused_reading 4
+  module _ (outside : is_outside year ≡ true) where
+    read_outside : reading year file next ≡ refused_reading 15
     unfolding reading read_refusal first_refusal
-    read_past past = rw (right, le-leb (record_count file) next past)
+    read_outside = rw outside
 
-    pub finished_past : record_count file ≤ next → is_finished file next ≡ true
+    finished_outside : is_finished year file next ≡ false
     unfolding is_finished
-    finished_past past = rw (right, le-leb (record_count file) next past)
+    finished_outside = rw outside
 
-    pub finished_inside : next < record_count file → is_finished file next ≡ false
+    -- its number
+    pub step_no_year : cond (is_finished year file next) 0 (reading year file next).refusal ≡ 15
+    step_no_year = rw (finished_outside, read_outside)
+
+    pub step_outside : IsStep year file next (Some (Err NoSuchYear)) next
+    step_outside = step_of false (refused_reading 15) finished_outside read_outside refl refl refl refl refl
+
+  module _ (within : is_outside year ≡ false) (wrong : is_wrong_length (length file) ≡ true) where
+    read_wrong : reading year file next ≡ refused_reading 4
+    unfolding reading read_refusal first_refusal
+    read_wrong = rw (within, wrong)
+
+    finished_wrong : is_finished year file next ≡ false
     unfolding is_finished
-    finished_inside inside = rw (right, lt-leb (record_count file) next inside)
+    finished_wrong = rw (within, wrong)
 
-    pub step_past : record_count file ≤ next → IsStep file next None next
+    pub step_wrong : IsStep year file next (Some (Err WrongLength)) next
+    step_wrong = step_of false (refused_reading 4) finished_wrong read_wrong refl refl refl refl refl
+
+  module _ (within : is_outside year ≡ false) (right : is_wrong_length (length file) ≡ false) where
+    read_past : record_count file ≤ next → reading year file next ≡ refused_reading 4
+    unfolding reading read_refusal first_refusal
+    read_past past = rw (within, right, le-leb (record_count file) next past)
+
+    pub finished_past : record_count file ≤ next → is_finished year file next ≡ true
+    unfolding is_finished
+    finished_past past = rw (within, right, le-leb (record_count file) next past)
+
+    pub finished_inside : next < record_count file → is_finished year file next ≡ false
+    unfolding is_finished
+    finished_inside inside = rw (within, right, lt-leb (record_count file) next inside)
+
+    pub step_past : record_count file ≤ next → IsStep year file next None next
     step_past past = step_of true (refused_reading 4) (finished_past past) (read_past past) refl refl refl refl refl
 
     module _ (inside : next < record_count file) where
-      step_good : is_good (right_at file next) ≡ true → IsStep file next (Some (Ok (right_at file next))) (next + 1)
+      step_good : is_good (days_in_year year) (right_at file next) ≡ true → IsStep year file next (Some (Ok (right_at file next))) (next + 1)
       step_good good =
-          step_of false _ (finished_inside inside) (read_good file next right inside good) refl refl refl refl refl
+          step_of false _ (finished_inside inside) (read_good year file next within right inside good) refl refl refl refl refl
 
-      step_bad : is_good (right_at file next) ≡ false → IsStep file next (Some (Err (BadRight next))) (next + 1)
-      step_bad bad = step_of false _ (finished_inside inside) (read_bad file next right inside bad) refl refl refl refl refl
+      step_bad : is_good (days_in_year year) (right_at file next) ≡ false → IsStep year file next (Some (Err (BadRight next))) (next + 1)
+      step_bad bad = step_of false _ (finished_inside inside) (read_bad year file next within right inside bad) refl refl refl refl refl
 
       -- what a read by the number answers is given
-      pub step_read : IsStep file next (Some (answered (read_refusal file next) next (right_at file next))) (next + 1)
-      step_read = by_test (is_good (right_at file next)) refl
+      pub step_read : IsStep year file next (Some (answered (read_refusal year file next) next (right_at file next))) (next + 1)
+      step_read = by_test (is_good (days_in_year year) (right_at file next)) refl
         where
-          by_test : (test : Bool) → is_good (right_at file next) ≡ test
-              → IsStep file next (Some (answered (read_refusal file next) next (right_at file next))) (next + 1)
-          by_test true e = rw (answered_good file next right inside e) (step_good e)
-          by_test false e = rw (answered_bad file next right inside e) (step_bad e)
+          by_test : (test : Bool) → is_good (days_in_year year) (right_at file next) ≡ test
+              → IsStep year file next (Some (answered (read_refusal year file next) next (right_at file next))) (next + 1)
+          by_test true e = rw (answered_good year file next within right inside e) (step_good e)
+          by_test false e = rw (answered_bad year file next within right inside e) (step_bad e)
 
       -- at a record the reader moves on, whether it is good or bad
-      pub moves_inside : next_after file next ≡ next + 1
-      moves_inside = by_test (is_good (right_at file next)) refl
+      pub moves_inside : next_after year file next ≡ next + 1
+      moves_inside = by_test (is_good (days_in_year year) (right_at file next)) refl
         where
-          by_test : (test : Bool) → is_good (right_at file next) ≡ test → next_after file next ≡ next + 1
+          by_test : (test : Bool) → is_good (days_in_year year) (right_at file next) ≡ test → next_after year file next ≡ next + 1
           by_test true e = sym (step_good e).moves
           by_test false e = sym (step_bad e).moves
 
@@ -101,28 +119,28 @@ same_given given other number right faulty none =
     sym (from_parts given) ∙ (λ i. given_from (number i) (right i) (faulty i) (none i)) ∙ from_parts other
 
 -- so there is one step from a place, and no other
-pub one_step : (file : List ℕ) (next : ℕ) {given other : Given} {after later : ℕ} → IsStep file next given after
-    → IsStep file next other later → (given ≡ other) × (after ≡ later)
-one_step file next {given} {other} step same =
+pub one_step : (year : ℕ) (file : List ℕ) (next : ℕ) {given other : Given} {after later : ℕ} → IsStep year file next given after
+    → IsStep year file next other later → (given ≡ other) × (after ≡ later)
+one_step year file next {given} {other} step same =
     (same_given given other (step.number ∙ sym same.number) (step.right ∙ sym same.right) (step.faulty ∙ sym same.faulty) (step.none ∙ sym same.none), step.moves ∙ sym same.moves)
 
 -- what a step gives over a file of right length, that of the read by the number; and where it gives none, all records have been given
-module _ (file : List ℕ) (next : ℕ) (right : is_wrong_length (length file) ≡ false) {after : ℕ} where
-  pub step_given : {given : Result Right Refusal} → IsStep file next (Some given) after
-      → (next < record_count file) × (given ≡ answered (read_refusal file next) next (right_at file next)) × (after ≡ next + 1)
+module _ (year : ℕ) (file : List ℕ) (next : ℕ) (within : is_outside year ≡ false) (right : is_wrong_length (length file) ≡ false) {after : ℕ} where
+  pub step_given : {given : Result Right Refusal} → IsStep year file next (Some given) after
+      → (next < record_count file) × (given ≡ answered (read_refusal year file next) next (right_at file next)) × (after ≡ next + 1)
   step_given {given} step = by_test (leb (record_count file) next) refl
     where
       by_test : (past : Bool) → leb (record_count file) next ≡ past
-          → (next < record_count file) × (given ≡ answered (read_refusal file next) next (right_at file next)) × (after ≡ next + 1)
-      by_test true e = absurd (false≢true (step.none ∙ finished_past file next right (leb-true _ _ e)))
+          → (next < record_count file) × (given ≡ answered (read_refusal year file next) next (right_at file next)) × (after ≡ next + 1)
+      by_test true e = absurd (false≢true (step.none ∙ finished_past year file next within right (leb-true _ _ e)))
       by_test false e =
           let inside : next < record_count file = leb-false _ _ e in
-          let only = one_step file next step (step_read file next right inside) in
+          let only = one_step year file next step (step_read year file next within right inside) in
           (inside, cc only.0, only.1)
 
-  pub step_none : IsStep file next None after → record_count file ≤ next
+  pub step_none : IsStep year file next None after → record_count file ≤ next
   step_none step = by_test (leb (record_count file) next) refl
     where
       by_test : (past : Bool) → leb (record_count file) next ≡ past → record_count file ≤ next
       by_test true e = leb-true _ _ e
-      by_test false e = absurd (false≢true (sym (step.none ∙ finished_inside file next right (leb-false _ _ e))))
+      by_test false e = absurd (false≢true (sym (step.none ∙ finished_inside year file next within right (leb-false _ _ e))))

@@ -4,7 +4,7 @@ use Rattle.std.specs.Prelude.{ℕ, ◌+◌, ◌*◌, ◌/◌, ◌%◌, Bool, not
 use Rattle.numbers.specs.Limits.{owners, nodes}
 use Rattle.numbers.specs.Refusals.{first_refusal, ◌if◌, answer_by}
 use Rattle.numbers.specs.Words.{word}
-use Rattle.calendar.specs.Year.{days_in_year}
+use Rattle.calendar.specs.Almanac.{is_outside, days_in_year}
 use Rattle.calendar.specs.declared.OperatingHour.{OperatingHour}
 use Rattle.rights.specs.declared.Right.{Right}
 
@@ -54,12 +54,12 @@ most_size = 100_000
 abbrev pub good_size : Right → Bool
 good_size right = leb 1 right.size && leb right.size most_size
 
--- "1 ≤ first ≤ last ≤ 365"
-abbrev pub good_days : Right → Bool
-good_days right = leb 1 right.first && leb right.first right.last && leb right.last days_in_year
+-- "1 ≤ first ≤ last ≤ 365", and by Wish 7 the top day comes from the year: of a year with so many days
+abbrev pub good_days : ℕ → Right → Bool
+good_days days right = leb 1 right.first && leb right.first right.last && leb right.last days
 
-abbrev pub is_good : Right → Bool
-is_good right = good_owner right && good_nodes right && good_kind right && good_size right && good_days right
+abbrev pub is_good : ℕ → Right → Bool
+is_good days right = good_owner right && good_nodes right && good_kind right && good_size right && good_days days right
 
 -- "A right is live in an hour if the day is from first to last and its class fits": 0 peak, 1 off-peak, 2 all hours
 abbrev pub class_fits : ℕ → Bool → Bool
@@ -75,11 +75,14 @@ most_bytes = 65_536
 abbrev pub is_wrong_length : ℕ → Bool
 is_wrong_length bytes = not (eqb (bytes % record_bytes) 0) || ltb most_bytes bytes
 
--- "A read by record number, from 0, gives the eight fields, or 4 or 7": 4 also for "no such record"
-unfoldable pub read_refusal : List ℕ → ℕ → ℕ
-read_refusal file number =
+-- "A read by record number, from 0, gives the eight fields, or 4 or 7": 4 also for "no such record"; and 15 before them
+unfoldable pub read_refusal : ℕ → List ℕ → ℕ → ℕ
+read_refusal year file number =
     first_refusal
-    ((4 if is_wrong_length (length file) || leb (record_count file) number) ∷ (7 if not (is_good (right_at file number))) ∷ [])
+    ((15 if is_outside year)
+    ∷ (4 if is_wrong_length (length file) || leb (record_count file) number)
+    ∷ (7 if not (is_good (days_in_year year) (right_at file number)))
+    ∷ [])
 
 -- what a read gives: its refusal number, and the eight fields
 pub record Reading : Type 0 where
@@ -94,7 +97,7 @@ refused_reading refusal =
       right = record { owner = 0; source = 0; sink = 0; kind = 0; class = 0; size = 0; first = 0; last = 0 };
     }
 
-unfoldable pub reading : List ℕ → ℕ → Reading
-reading file number =
-    answer_by (read_refusal file number) (record { refusal = 0; right = right_at file number })
-    (refused_reading (read_refusal file number))
+unfoldable pub reading : ℕ → List ℕ → ℕ → Reading
+reading year file number =
+    answer_by (read_refusal year file number) (record { refusal = 0; right = right_at file number })
+    (refused_reading (read_refusal year file number))

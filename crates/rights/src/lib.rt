@@ -100,18 +100,16 @@ impl Words {
         }
     }
 
-    // Whether each field of the record has a good value.
-    fn is_good(self) -> bool
-        ensures { result ≡ is_good (right_of self.low self.high) }
+    // Whether each field of the record has a good value, in a year with so many days.
+    fn is_good(self, days: u64) -> bool
+        ensures { result ≡ is_good days (right_of self.low self.high) }
     {
         let right = self.cut();
         self.within_limits()
             & (right.sink != right.source)
             & (right.class <= Class::AllHours as u8)
             & ((1 <= right.size) & (right.size <= MOST_SIZE))
-            & ((1 <= right.first)
-                & (right.first <= right.last)
-                & (right.last <= calendar::DAYS_IN_YEAR))
+            & ((1 <= right.first) & (right.first <= right.last) & (u64::from(right.last) <= days))
     }
 
     // Whether owner, source, sink and kind are within their limits. Asked of the word, and not of the fields cut from it, it is one test for
@@ -128,10 +126,13 @@ impl Words {
     }
 }
 
-// The record of a number, from 0: any bytes, any number. By `as`, here and below: there is no `From` between 64 bits and an index.
-pub fn read(file: &[u8], number: u64) -> Result<Right, Refusal>
-    ensures { result ≡ answered (read_refusal file.now number) number (right_at file.now number) }
+// The record of a number, from 0: any year, any bytes, any number. By `as`, here and below: there is no `From` between 64 bits and an index.
+pub fn read(year: u64, file: &[u8], number: u64) -> Result<Right, Refusal>
+    ensures { result ≡ answered (read_refusal year file.now number) number (right_at file.now number) }
 {
+    if calendar::is_outside(year) {
+        return Err(Refusal::NoSuchYear);
+    }
     if wrong_length(file.len()) {
         return Err(Refusal::WrongLength);
     }
@@ -140,7 +141,7 @@ pub fn read(file: &[u8], number: u64) -> Result<Right, Refusal>
         return Err(Refusal::WrongLength);
     };
     let words = Words::from_le_bytes(record);
-    if words.is_good() {
+    if words.is_good(calendar::days_in_year(year)) {
         Ok(words.cut())
     } else {
         Err(Refusal::BadRight(number))
@@ -178,18 +179,22 @@ fn other_class(peak: bool) -> Class
     if peak { Class::OffPeak } else { Class::Peak }
 }
 
-// The first refusal that a file calls for, with so many prices; it names the first record that has the fault.
-pub fn file_fault(file: &[u8], prices: usize) -> Result<(), Refusal>
-    ensures { result ≡ answered (file_refusal prices file.now) (faulty_record prices file.now (file_refusal prices file.now)) tt }
+// The first refusal that a file calls for in a year, with so many prices; it names the first record that has the fault.
+pub fn file_fault(year: u64, file: &[u8], prices: usize) -> Result<(), Refusal>
+    ensures { result ≡ answered (file_refusal year prices file.now) (faulty_record year prices file.now (file_refusal year prices file.now)) tt }
 {
+    if calendar::is_outside(year) {
+        return Err(Refusal::NoSuchYear);
+    }
     if wrong_length(file.len()) {
         return Err(Refusal::WrongLength);
     }
     let (records, _) = file.as_chunks::<RECORD_BYTES>();
+    let days = calendar::days_in_year(year);
     let mut unpriced = None;
     for (number, record) in records.iter().enumerate() {
         let words = Words::from_le_bytes(record);
-        if !words.is_good() {
+        if !words.is_good(days) {
             return Err(Refusal::BadRight(number as u64));
         }
         let here = is_unpriced(words.cut(), prices).then_some(number as u64);

@@ -22,8 +22,8 @@ use Rattle.settlement.proofs.Refusing.{event_clear, accepted_early, from_own, in
 -- an accepted hour
 pub record HourAccepted (file : List ℕ) (prices : List ℤ) (collected : ℤ) (book : Book) : Type 0 where
   pub open_book : book.ended ≡ false
-  pub not_due : is_month_end book.hours book.months ≡ false
-  pub in_year : book.hours < hours_in_year
+  pub not_due : is_month_end book.year book.hours book.months ≡ false
+  pub in_year : book.hours < hours_in_year book.year
   pub wants_most : total (wants (hour_call file prices collected) book) ≤ most_cents
   pub fund_most : fund (hour_call file prices collected) book ≤ most_surplus
   pub carry : all_shortfalls (book_after (hour_call file prices collected) book) ≤ most_cents
@@ -33,11 +33,11 @@ module _ (file : List ℕ) (prices : List ℤ) (collected : ℤ) (book : Book) (
   call = hour_call file prices collected
 
   own_clear : first_refusal (own_rows call book) ≡ 0
-      → (first_refusal (input_rows file prices collected) ≡ 0)
+      → (first_refusal (input_rows book.year file prices collected) ≡ 0)
       × (first_refusal (size_rows book (fund call book) (wants call book) (hour_charges (next_targets file prices book))) ≡ 0)
   unfolding own_rows
   own_clear clear =
-      refusal_both 4 8 (input_rows file prices collected) _ (omega arith) (input_within file prices collected) clear
+      refusal_both 4 8 (input_rows book.year file prices collected) _ (omega arith) (input_within book.year file prices collected) clear
 
   pub hour_accepted : refusal call book places ≡ 0 → HourAccepted file prices collected book
   unfolding fund book_after
@@ -52,17 +52,17 @@ module _ (file : List ℕ) (prices : List ℤ) (collected : ℤ) (book : Book) (
         not_due = turn.0;
         in_year = turn.1;
         wants_most = size.0;
-        fund_most = omega (arith, amount_most collected (calm_amount file prices collected own.0), size.1);
+        fund_most = omega (arith, amount_most collected (calm_amount book.year file prices collected own.0), size.1);
         carry = size.2;
       }
 
 module _ (book : Book) (places : ℕ) where
   pub month_accepted : refusal month_end_call book places ≡ 0
-      → (book.ended ≡ false) × (is_month_end book.hours book.months ≡ true)
+      → (book.ended ≡ false) × (is_month_end book.year book.hours book.months ≡ true)
   unfolding is_out_of_turn
   month_accepted accepted =
       let begun = event_clear (event_of month_end_call) book places (accepted_early month_end_call book places accepted) in
-      (begun.1, not-false (is_month_end book.hours book.months) begun.2)
+      (begun.1, not-false (is_month_end book.year book.hours book.months) begun.2)
 
   pub year_accepted : refusal year_end_call book places ≡ 0 → (book.ended ≡ false) × (months_in_year ≤ book.months)
   unfolding is_out_of_turn

@@ -5,7 +5,7 @@ use mathlib.Core.Path.{◌≡◌, refl}
 use native.Mathlib.Omega.{arith}
 use lib.ListN.{length}
 use Rattle.numbers.specs.Limits.{most_cents}
-use Rattle.calendar.specs.Year.{hours_in_year}
+use Rattle.calendar.proofs.AlmanacLaws.{most_hours}
 use Rattle.rights.specs.Layout.{record_count}
 use Rattle.rights.proofs.Faults.{faulty_within}
 use Rattle.settlement.specs.declared.Book.{Book}
@@ -16,9 +16,9 @@ use Rattle.settlement.proofs.NotSpoiled.{shortfalls_within, surplus_within}
 use Rattle.settlement.proofs.Paying.{left_small}
 use Rattle.settlement.proofs.Refusing.{event_clear, accepted_early}
 
--- what all hours of a year can bring, and one hour more
+-- what all hours of the longest year can bring, and one hour more
 abbrev pub most_fund : ℕ
-most_fund = (hours_in_year + 1) * most_surplus
+most_fund = (most_hours + 1) * most_surplus
 
 pub record SmallAmounts (call : Call) (book : Book) : Type 0 where
   pub fund_most : fund call book ≤ most_fund
@@ -58,9 +58,9 @@ small_amounts year_end_call book places accepted =
     }
 
 -- a fresh book has no surplus
-pub fresh_empty : fund_left fresh ≡ 0
+pub fresh_empty : (year : ℕ) → fund_left (fresh year) ≡ 0
 unfolding fresh
-fresh_empty = refl
+fresh_empty year = refl
 
 -- ---- the record number
 
@@ -70,8 +70,8 @@ records (hour_call file prices collected) = record_count file
 records month_end_call = 0
 records year_end_call = 0
 
-pub record_within : (call : Call) (number : ℕ) → record_of call number ≤ records call
+pub record_within : (call : Call) (year number : ℕ) → record_of call year number ≤ records call
 unfolding record_of
-record_within (hour_call file prices collected) number = faulty_within (length prices) file number
-record_within month_end_call number = omega arith
-record_within year_end_call number = omega arith
+record_within (hour_call file prices collected) year number = faulty_within year (length prices) file number
+record_within month_end_call year number = omega arith
+record_within year_end_call year number = omega arith

@@ -33,10 +33,10 @@ unfolding own_rows
 end_turn Month book places = event_alone (end_call Month) book places refl
 end_turn Year book places = event_alone (end_call Year) book places refl
 
-pub end_names : (end : End) (number : ℕ) → 0 ≡ record_of (end_call end) number
+pub end_names : (end : End) (year number : ℕ) → 0 ≡ record_of (end_call end) year number
 unfolding record_of
-end_names Month number = refl
-end_names Year number = refl
+end_names Month year number = refl
+end_names Year year number = refl
 
 -- its lines are what it pays
 pub end_lines : (end : End) (book : Book) → payment_lines (paid (end_call end) book) ≡ lines (end_call end) book
@@ -78,5 +78,5 @@ module _ {end : End} {book : Book} {places : ℕ} (pass : Passed end book places
         let surplus = surplus_within book pass.sound in
         let rest = left_small book.monthsurplus book.monthshort in
         let same = ap (λ (x : Paid). x.left) p in
-        let months = months_within book.hours book.months book.ended (in_step book pass.sound) in
+        let months = months_within book.year book.hours book.months book.ended (in_step book pass.sound) in
         (omega arith, omega arith, omega arith)

@@ -45,28 +45,28 @@ none_of_all part past entry none = all_is part past entry (λ _. 0) none
 -- ---- a refused entry
 
 -- the parts that a refused entry has
-pub record Nothing (past : List Entry) (entry : Entry) : Type 0 where
+pub record Nothing (year : ℕ) (past : List Entry) (entry : Entry) : Type 0 where
   pub hour : hour_count past entry ≡ 0
   pub month : month_end_count past entry ≡ 0
-  pub year : year_end_count past entry ≡ 0
-  pub target : (owner : ℕ) → positive_target owner past entry ≡ 0
+  pub year_end : year_end_count past entry ≡ 0
+  pub target : (owner : ℕ) → positive_target year owner past entry ≡ 0
   pub credits : (owner : ℕ) → credit owner past entry ≡ 0
   pub hour_credits : (owner : ℕ) → hour_credit owner past entry ≡ 0
   pub charges : (owner : ℕ) → charge owner past entry ≡ 0
   pub collected : collection past entry ≡ 0
 
-module _ (past : List Entry) (entry : Entry) (refused : entry.result.refusal ≡ 0 → ⊥) where
+module _ (year : ℕ) (past : List Entry) (entry : Entry) (refused : entry.result.refusal ≡ 0 → ⊥) where
   nothing : (amount : ℕ) → if_accepted entry amount ≡ 0
   nothing amount = answer_refused entry.result.refusal amount 0 refused
 
-  pub refused_nothing : Nothing past entry
+  pub refused_nothing : Nothing year past entry
   unfolding hour_count month_end_count year_end_count positive_target credit hour_credit charge collection
   refused_nothing =
       record {
         hour = nothing (at_hour entry.call 1);
         month = nothing (at_month_end entry.call 1);
-        year = nothing (at_year_end entry.call 1);
-        target = λ owner. nothing (call_positive entry.call (sum_over hour_count past) owner);
+        year_end = nothing (at_year_end entry.call 1);
+        target = λ owner. nothing (call_positive entry.call year (sum_over hour_count past) owner);
         credits = λ owner. nothing (positive (line_of entry owner));
         hour_credits = λ owner. nothing (at_hour entry.call (positive (line_of entry owner)));
         charges = λ owner. nothing (at_hour entry.call (negative (line_of entry owner)));
@@ -76,54 +76,54 @@ module _ (past : List Entry) (entry : Entry) (refused : entry.result.refusal ≡
 -- ---- an accepted entry, answered on the book before it
 
 -- the parts that an accepted entry has
-pub record Parts (past : List Entry) (entry : Entry) : Type 0 where
+pub record Parts (year : ℕ) (past : List Entry) (entry : Entry) : Type 0 where
   pub hour : hour_count past entry ≡ at_hour entry.call 1
   pub month : month_end_count past entry ≡ at_month_end entry.call 1
-  pub year : year_end_count past entry ≡ at_year_end entry.call 1
-  pub target : (owner : ℕ) → positive_target owner past entry ≡ call_positive entry.call (sum_over hour_count past) owner
-  pub credits : (owner : ℕ) → owner < owners → credit owner past entry ≡ paid_to entry.call (book_at past) owner
+  pub year_end : year_end_count past entry ≡ at_year_end entry.call 1
+  pub target : (owner : ℕ) → positive_target year owner past entry ≡ call_positive entry.call year (sum_over hour_count past) owner
+  pub credits : (owner : ℕ) → owner < owners → credit owner past entry ≡ paid_to entry.call (book_at year past) owner
   pub hour_credits : (owner : ℕ) → owner < owners
-      → hour_credit owner past entry ≡ at_hour entry.call (paid_to entry.call (book_at past) owner)
+      → hour_credit owner past entry ≡ at_hour entry.call (paid_to entry.call (book_at year past) owner)
   pub charges : (owner : ℕ) → owner < owners
-      → charge owner past entry ≡ at_hour entry.call (negative (get_or (lines entry.call (book_at past)) owner (pos 0)))
+      → charge owner past entry ≡ at_hour entry.call (negative (get_or (lines entry.call (book_at year past)) owner (pos 0)))
   pub collected : collection past entry ≡ call_amount entry.call
-  pub all_credits : of_all credit past entry ≡ total (list_below (paid_to entry.call (book_at past)) owners)
+  pub all_credits : of_all credit past entry ≡ total (list_below (paid_to entry.call (book_at year past)) owners)
 
-module _ (past : List Entry) (entry : Entry)
-    (answered : Answered entry.call (book_at past) entry.lent entry.result entry.written)
+module _ (year : ℕ) (past : List Entry) (entry : Entry)
+    (answered : Answered entry.call (book_at year past) entry.lent entry.result entry.written)
     (accepted : entry.result.refusal ≡ 0) where
-  pub by_table_lem : refusal entry.call (book_at past) (length entry.lent) ≡ 0
+  pub by_table_lem : refusal entry.call (book_at year past) (length entry.lent) ≡ 0
   by_table_lem = sym (gives_number answered) ∙ accepted
 
-  pub written_is : entry.written ≡ lines entry.call (book_at past)
-  written_is = answered.writes ∙ answer_accepted _ (lines entry.call (book_at past)) entry.lent by_table_lem
+  pub written_is : entry.written ≡ lines entry.call (book_at year past)
+  written_is = answered.writes ∙ answer_accepted _ (lines entry.call (book_at year past)) entry.lent by_table_lem
 
-  pub book_is : entry.result.book ≡ book_after entry.call (book_at past)
-  book_is = gives_book_lem answered ∙ answer_accepted _ (book_after entry.call (book_at past)) (book_at past) by_table_lem
+  pub book_is : entry.result.book ≡ book_after entry.call (book_at year past)
+  book_is = gives_book_lem answered ∙ answer_accepted _ (book_after entry.call (book_at year past)) (book_at year past) by_table_lem
 
-  pub fund_is_lem : entry.result.fund ≡ fund entry.call (book_at past)
-  fund_is_lem = gives_fund answered ∙ answer_accepted _ (fund entry.call (book_at past)) 0 by_table_lem
+  pub fund_is_lem : entry.result.fund ≡ fund entry.call (book_at year past)
+  fund_is_lem = gives_fund answered ∙ answer_accepted _ (fund entry.call (book_at year past)) 0 by_table_lem
 
-  pub demand_is_lem : entry.result.demand ≡ demand entry.call (book_at past)
-  demand_is_lem = gives_demand answered ∙ answer_accepted _ (demand entry.call (book_at past)) 0 by_table_lem
+  pub demand_is_lem : entry.result.demand ≡ demand entry.call (book_at year past)
+  demand_is_lem = gives_demand answered ∙ answer_accepted _ (demand entry.call (book_at year past)) 0 by_table_lem
 
-  line_at : (owner : ℕ) → line_of entry owner ≡ get_or (lines entry.call (book_at past)) owner (pos 0)
+  line_at : (owner : ℕ) → line_of entry owner ≡ get_or (lines entry.call (book_at year past)) owner (pos 0)
   line_at owner = ap (λ (l : List ℤ). get_or l owner (pos 0)) written_is
 
-  paid_at : (owner : ℕ) → owner < owners → positive (line_of entry owner) ≡ paid_to entry.call (book_at past) owner
-  paid_at owner inside = ap positive (line_at owner) ∙ credit_is entry.call (book_at past) owner inside
+  paid_at : (owner : ℕ) → owner < owners → positive (line_of entry owner) ≡ paid_to entry.call (book_at year past) owner
+  paid_at owner inside = ap positive (line_at owner) ∙ credit_is entry.call (book_at year past) owner inside
 
   whole : (amount : ℕ) → if_accepted entry amount ≡ amount
   whole amount = answer_accepted entry.result.refusal amount 0 accepted
 
-  pub accepted_parts : Parts past entry
+  pub accepted_parts : Parts year past entry
   unfolding hour_count month_end_count year_end_count positive_target credit hour_credit charge collection
   accepted_parts =
       record {
         hour = whole (at_hour entry.call 1);
         month = whole (at_month_end entry.call 1);
-        year = whole (at_year_end entry.call 1);
-        target = λ owner. whole (call_positive entry.call (sum_over hour_count past) owner);
+        year_end = whole (at_year_end entry.call 1);
+        target = λ owner. whole (call_positive entry.call year (sum_over hour_count past) owner);
         credits = λ owner inside. whole (positive (line_of entry owner)) ∙ paid_at owner inside;
         hour_credits =
             λ owner inside. whole (at_hour entry.call (positive (line_of entry owner))) ∙ ap (at_hour entry.call) (paid_at owner inside);
@@ -132,6 +132,6 @@ module _ (past : List Entry) (entry : Entry)
             whole (at_hour entry.call (negative (line_of entry owner))) ∙ ap (λ (z : ℤ). at_hour entry.call (negative z)) (line_at owner);
         collected = whole (call_amount entry.call);
         all_credits =
-            all_is credit past entry (paid_to entry.call (book_at past))
+            all_is credit past entry (paid_to entry.call (book_at year past))
             (λ owner inside. whole (positive (line_of entry owner)) ∙ paid_at owner inside);
       }

@@ -10,6 +10,7 @@ use native.Mathlib.Omega.{arith}
 use lib.ListN.{get_or-replicate}
 use Rattle.numbers.specs.Limits.{owners}
 use Rattle.numbers.specs.Lists.{total}
+use Rattle.calendar.specs.Almanac.{is_outside}
 use Rattle.calendar.specs.Year.{months_in_year}
 use Rattle.settlement.specs.declared.Book.{Book}
 use Rattle.settlement.specs.Book.{fresh, month_short, open_shortfall, is_short, fund_left}
@@ -18,7 +19,8 @@ use Rattle.settlement.proofs.EntryParts.{Nothing, over_next, since_next, none_of
 use Rattle.settlement.proofs.Sane.{Sane}
 use Rattle.settlement.proofs.Shares.{IsLong}
 
-pub record Kept (past : List Entry) (book : Book) : Type 0 where
+pub record Kept (year : ℕ) (past : List Entry) (book : Book) : Type 0 where
+  pub same_year : book.year ≡ year
   pub long : IsLong book
   pub sane : Sane book
   pub hours : book.hours ≡ sum_over hour_count past
@@ -26,22 +28,24 @@ pub record Kept (past : List Entry) (book : Book) : Type 0 where
   pub ended_after : book.ended ≡ true → 0 < sum_over year_end_count past
   pub ended_only : 0 < sum_over year_end_count past → book.ended ≡ true
   pub month_owner : (owner : ℕ) → owner < owners
-      → month_short book owner + sum_since (hour_credit owner) past ≡ sum_since (positive_target owner) past
+      → month_short book owner + sum_since (hour_credit owner) past ≡ sum_since (positive_target year owner) past
   pub all_owner : (owner : ℕ) → owner < owners
-      → open_shortfall book owner + sum_over (credit owner) past ≡ sum_over (positive_target owner) past
+      → open_shortfall book owner + sum_over (credit owner) past ≡ sum_over (positive_target year owner) past
   pub month_fund : book.monthsurplus + sum_since (of_all hour_credit) past ≡ sum_since collection past + sum_since (of_all charge) past
   pub all_fund : fund_left book + sum_over (of_all credit) past ≡ sum_over collection past + sum_over (of_all charge) past
   pub empty_month : book.months ≡ months_in_year → ((owner : ℕ) → owner < owners → month_short book owner ≡ 0) × (book.monthsurplus ≡ 0)
   pub year_done : book.ended ≡ true → (fund_left book ≡ 0) ⊎ ((owner : ℕ) → owner < owners → is_short book owner ≡ false)
 
 -- the fresh book, before any call
-pub kept_fresh : Kept [] fresh
+pub kept_fresh : (year : ℕ) → is_outside year ≡ false → Kept year [] (fresh year)
 unfolding fresh sum_over sum_since total
-kept_fresh =
+kept_fresh year within =
     record {
+      same_year = refl;
       long = record { month = refl; year = refl };
       sane =
           record {
+            in_range = within;
             hours_most = zero-le;
             months_most = zero-le;
             after_last = λ _. zero-le;
@@ -64,30 +68,31 @@ kept_fresh =
     }
 
 -- a refused call leaves the book, and adds nothing to what is read
-module _ (past : List Entry) (entry : Entry) (book : Book) (kept : Kept past book) (none : Nothing past entry) where
+module _ (year : ℕ) (past : List Entry) (entry : Entry) (book : Book) (kept : Kept year past book) (none : Nothing year past entry) where
   over : (part : List Entry → Entry → ℕ) → part past entry ≡ 0 → sum_over part past ≡ sum_over part (entry ∷ past)
   over part zero = omega (arith, over_next part entry past, zero)
 
   since : (part : List Entry → Entry → ℕ) → part past entry ≡ 0 → sum_since part past ≡ sum_since part (entry ∷ past)
   since part zero = omega (arith, since_next part entry past none.month, zero)
 
-  pub kept_refused : Kept (entry ∷ past) book
+  pub kept_refused : Kept year (entry ∷ past) book
   kept_refused =
       record {
+        same_year = kept.same_year;
         long = kept.long;
         sane = kept.sane;
         hours = kept.hours ∙ over hour_count none.hour;
         months = kept.months ∙ over month_end_count none.month;
-        ended_after = λ e. subst (λ (n : ℕ). 0 < n) (over year_end_count none.year) (kept.ended_after e);
-        ended_only = λ l. kept.ended_only (subst (λ (n : ℕ). 0 < n) (sym (over year_end_count none.year)) l);
+        ended_after = λ e. subst (λ (n : ℕ). 0 < n) (over year_end_count none.year_end) (kept.ended_after e);
+        ended_only = λ l. kept.ended_only (subst (λ (n : ℕ). 0 < n) (sym (over year_end_count none.year_end)) l);
         month_owner =
             λ owner inside.
             omega
-            (arith, kept.month_owner owner inside, since (hour_credit owner) (none.hour_credits owner), since (positive_target owner) (none.target owner));
+            (arith, kept.month_owner owner inside, since (hour_credit owner) (none.hour_credits owner), since (positive_target year owner) (none.target owner));
         all_owner =
             λ owner inside.
             omega
-            (arith, kept.all_owner owner inside, over (credit owner) (none.credits owner), over (positive_target owner) (none.target owner));
+            (arith, kept.all_owner owner inside, over (credit owner) (none.credits owner), over (positive_target year owner) (none.target owner));
         month_fund =
             omega
             (arith, kept.month_fund, since (of_all hour_credit) (none_of_all hour_credit past entry (λ o _. none.hour_credits o)), since collection none.collected, since (of_all charge) (none_of_all charge past entry (λ o _. none.charges o)));

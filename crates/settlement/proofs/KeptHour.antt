@@ -1,7 +1,7 @@
 -- An accepted hour keeps the tie between the book and its entries.
 -- Assumes nothing.
 use Prim.Native.Nat.{ℕ, ◌+◌, ◌<◌}
-use mathlib.Core.Path.{◌≡◌, sym, ap, ◌∙◌}
+use mathlib.Core.Path.{◌≡◌, sym, ap, ap₂, ◌∙◌}
 use mathlib.Core.Bool.{Bool, false, ◌&&◌, true≢false}
 use mathlib.Core.List.{List, ◌∷◌}
 use native.Mathlib.Omega.{arith}
@@ -28,22 +28,22 @@ use Rattle.settlement.proofs.EntryParts.{Parts, over_next, since_next, all_is}
 use Rattle.settlement.proofs.Kept.{Kept}
 
 -- a month end that is not due, though there is a next one, is still ahead
-pub still_ahead : (book : Book) → is_month_end book.hours book.months ≡ false → book.months < months_in_year
-    → book.hours ≡ month_end book.months → ⊥
+pub still_ahead : (book : Book) → is_month_end book.year book.hours book.months ≡ false → book.months < months_in_year
+    → book.hours ≡ month_end book.year book.months → ⊥
 still_ahead book not_due more at =
-    eqb-false book.hours (month_end book.months)
-    (sym (ap (λ (t : Bool). t && eqb book.hours (month_end book.months)) (lt-ltb book.months months_in_year more)) ∙ not_due) at
+    eqb-false book.hours (month_end book.year book.months)
+    (sym (ap (λ (t : Bool). t && eqb book.hours (month_end book.year book.months)) (lt-ltb book.months months_in_year more)) ∙ not_due) at
 
-module _ (past : List Entry) (file : List ℕ) (prices : List ℤ) (collected : ℤ) (lent : List ℤ) (result : Settled) (written : List ℤ) where
+module _ (year : ℕ) (past : List Entry) (file : List ℕ) (prices : List ℤ) (collected : ℤ) (lent : List ℤ) (result : Settled) (written : List ℤ) where
   abbrev pub hour_entry : Entry
   hour_entry = record { call = hour_call file prices collected; lent = lent; result = result; written = written }
 
   abbrev call : Call
   call = hour_call file prices collected
 
-  module _ (kept : Kept past (book_at past)) (parts : Parts past hour_entry) (accepted : HourAccepted file prices collected (book_at past)) where
+  module _ (kept : Kept year past (book_at year past)) (parts : Parts year past hour_entry) (accepted : HourAccepted file prices collected (book_at year past)) where
     abbrev book : Book
-    book = book_at past
+    book = book_at year past
 
     within_year : book.months ≡ months_in_year → ⊥
     within_year e = omega (arith, kept.sane.full e, accepted.in_year)
@@ -52,6 +52,7 @@ module _ (past : List Entry) (file : List ℕ) (prices : List ℤ) (collected : 
     unfolding book_after
     sane_after =
         record {
+          in_range = kept.sane.in_range;
           hours_most = omega (arith, accepted.in_year);
           months_most = kept.sane.months_most;
           after_last = λ more. omega (arith, kept.sane.after_last more);
@@ -64,11 +65,11 @@ module _ (past : List Entry) (file : List ℕ) (prices : List ℤ) (collected : 
         }
 
     -- what the entry adds to each sum
-    pub target_is : (owner : ℕ) → owner < owners → positive_target owner past hour_entry ≡ wanted call book owner
+    pub target_is : (owner : ℕ) → owner < owners → positive_target year owner past hour_entry ≡ wanted call book owner
     target_is owner inside =
         parts.target owner
-        ∙ ap (λ (hour : ℕ). positive (target file prices hour owner)) (sym kept.hours)
-        ∙ sym (hour_wanted file prices collected book owner inside ∙ ap positive (target_at file prices book.hours owner inside))
+        ∙ ap₂ (λ (of hour : ℕ). positive (target of file prices hour owner)) (sym kept.same_year) (sym kept.hours)
+        ∙ sym (hour_wanted file prices collected book owner inside ∙ ap positive (target_at book.year file prices book.hours owner inside))
 
     all_hour_credits : of_all hour_credit past hour_entry ≡ total (list_below (paid_to call book) owners)
     all_hour_credits = all_is hour_credit past hour_entry (paid_to call book) parts.hour_credits
@@ -89,24 +90,25 @@ module _ (past : List Entry) (file : List ℕ) (prices : List ℤ) (collected : 
     unfolding book_after
     month_short_after owner inside = added_at book.monthshort (unpaid call book) owner inside
 
-    pub kept_hour : Kept (hour_entry ∷ past) (book_after call book)
+    pub kept_hour : Kept year (hour_entry ∷ past) (book_after call book)
     unfolding book_after added_to
     kept_hour =
         record {
+          same_year = kept.same_year;
           long = record { month = length_list_below _ owners; year = kept.long.year };
           sane = sane_after;
           hours = omega (arith, kept.hours, over_next hour_count hour_entry past, parts.hour);
           months = omega (arith, kept.months, over_next month_end_count hour_entry past, parts.month);
           ended_after = λ e. omega (arith, kept.ended_after e, over_next year_end_count hour_entry past);
-          ended_only = λ l. kept.ended_only (omega (arith, over_next year_end_count hour_entry past, parts.year));
+          ended_only = λ l. kept.ended_only (omega (arith, over_next year_end_count hour_entry past, parts.year_end));
           month_owner =
               λ owner inside.
               omega
-              (arith, month_short_after owner inside, kept.month_owner owner inside, since_next (hour_credit owner) hour_entry past parts.month, since_next (positive_target owner) hour_entry past parts.month, parts.hour_credits owner inside, target_is owner inside, unpaid_paid call book owner inside);
+              (arith, month_short_after owner inside, kept.month_owner owner inside, since_next (hour_credit owner) hour_entry past parts.month, since_next (positive_target year owner) hour_entry past parts.month, parts.hour_credits owner inside, target_is owner inside, unpaid_paid call book owner inside);
           all_owner =
               λ owner inside.
               omega
-              (arith, month_short_after owner inside, kept.all_owner owner inside, over_next (credit owner) hour_entry past, over_next (positive_target owner) hour_entry past, parts.credits owner inside, target_is owner inside, unpaid_paid call book owner inside);
+              (arith, month_short_after owner inside, kept.all_owner owner inside, over_next (credit owner) hour_entry past, over_next (positive_target year owner) hour_entry past, parts.credits owner inside, target_is owner inside, unpaid_paid call book owner inside);
           month_fund =
               omega
               (arith, kept.month_fund, since_next (of_all hour_credit) hour_entry past parts.month, since_next collection hour_entry past parts.month, since_next (of_all charge) hour_entry past parts.month, all_hour_credits, brought, closes);

@@ -16,7 +16,7 @@ use Rattle.numbers.specs.Lists.{total, list_below}
 use Rattle.numbers.proofs.Counts.{length_list_below}
 use Rattle.numbers.proofs.Booleans.{both_true}
 use Rattle.calendar.specs.Year.{months_in_year, month_end, is_month_end}
-use Rattle.calendar.proofs.MonthEnds.{months_rise}
+use Rattle.calendar.proofs.MonthEnds.{months_rise, last_month}
 use Rattle.settlement.specs.declared.Book.{Book}
 use Rattle.settlement.specs.Book.{month_short, year_short}
 use Rattle.settlement.specs.Events.{Settled, month_end_call, wants, fund, paid, unpaid_of, added_to, book_after}
@@ -27,19 +27,19 @@ use Rattle.settlement.proofs.Sane.{Sane}
 use Rattle.settlement.proofs.EntryParts.{Parts, over_next, since_closed, none_of_all}
 use Rattle.settlement.proofs.Kept.{Kept}
 
-module _ (past : List Entry) (lent : List ℤ) (result : Settled) (written : List ℤ) where
+module _ (year : ℕ) (past : List Entry) (lent : List ℤ) (result : Settled) (written : List ℤ) where
   abbrev pub month_entry : Entry
   month_entry = record { call = month_end_call; lent = lent; result = result; written = written }
 
-  module _ (kept : Kept past (book_at past)) (parts : Parts past month_entry) (still_Open : (book_at past).ended ≡ false)
-      (due : is_month_end (book_at past).hours (book_at past).months ≡ true) where
+  module _ (kept : Kept year past (book_at year past)) (parts : Parts year past month_entry) (still_Open : (book_at year past).ended ≡ false)
+      (due : is_month_end (book_at year past).year (book_at year past).hours (book_at year past).months ≡ true) where
     abbrev book : Book
-    book = book_at past
+    book = book_at year past
 
-    due_parts : (book.months < months_in_year) × (book.hours ≡ month_end book.months)
+    due_parts : (book.months < months_in_year) × (book.hours ≡ month_end book.year book.months)
     due_parts =
-        let both = both_true (ltb book.months months_in_year) (eqb book.hours (month_end book.months)) due in
-        (ltb-true book.months months_in_year both.0, eqb-true book.hours (month_end book.months) both.1)
+        let both = both_true (ltb book.months months_in_year) (eqb book.hours (month_end book.year book.months)) due in
+        (ltb-true book.months months_in_year both.0, eqb-true book.hours (month_end book.year book.months) both.1)
 
     unpaid_total : total (unpaid month_end_call book) ≤ total book.monthshort
     unfolding wants
@@ -57,12 +57,13 @@ module _ (past : List Entry) (lent : List ℤ) (result : Settled) (written : Lis
     unfolding book_after fund
     sane_after =
         record {
+          in_range = kept.sane.in_range;
           hours_most = kept.sane.hours_most;
           months_most = omega (arith, due_parts.0);
           after_last = λ _. rw (add-one book.months) (le_of_eq (sym due_parts.1));
           before_next =
-              λ more. omega (arith, due_parts.1, months_rise book.months more);
-          full = λ e. due_parts.1 ∙ ap month_end (eleven e);
+              λ more. omega (arith, due_parts.1, months_rise book.year book.months more);
+          full = λ e. due_parts.1 ∙ ap (month_end book.year) (eleven e) ∙ last_month book.year;
           ended_full = λ e. absurd (true≢false (sym e ∙ still_Open));
           short_most = omega (arith, no_cells, year_total, unpaid_total, kept.sane.short_most);
           surplus_most = omega (arith, kept.sane.surplus_most, left_most month_end_call book);
@@ -92,24 +93,25 @@ module _ (past : List Entry) (lent : List ℤ) (result : Settled) (written : Lis
     no_charge : of_all charge past month_entry ≡ 0
     no_charge = none_of_all charge past month_entry parts.charges
 
-    pub kept_month : Kept (month_entry ∷ past) (book_after month_end_call book)
+    pub kept_month : Kept year (month_entry ∷ past) (book_after month_end_call book)
     unfolding book_after added_to
     kept_month =
         record {
+          same_year = kept.same_year;
           long = record { month = length-replicate {A = ℕ} owners 0; year = length_list_below _ owners };
           sane = sane_after;
           hours = omega (arith, kept.hours, over_next hour_count month_entry past, parts.hour);
           months = omega (arith, kept.months, over_next month_end_count month_entry past, parts.month);
           ended_after = λ e. omega (arith, kept.ended_after e, over_next year_end_count month_entry past);
-          ended_only = λ l. kept.ended_only (omega (arith, over_next year_end_count month_entry past, parts.year));
+          ended_only = λ l. kept.ended_only (omega (arith, over_next year_end_count month_entry past, parts.year_end));
           month_owner =
               λ owner inside.
               omega
-              (arith, month_after owner inside, since_closed (hour_credit owner) month_entry past parts.month, since_closed (positive_target owner) month_entry past parts.month);
+              (arith, month_after owner inside, since_closed (hour_credit owner) month_entry past parts.month, since_closed (positive_target year owner) month_entry past parts.month);
           all_owner =
               λ owner inside.
               omega
-              (arith, month_after owner inside, year_after owner inside, kept.all_owner owner inside, over_next (credit owner) month_entry past, over_next (positive_target owner) month_entry past, parts.credits owner inside, parts.target owner, want_paid owner inside);
+              (arith, month_after owner inside, year_after owner inside, kept.all_owner owner inside, over_next (credit owner) month_entry past, over_next (positive_target year owner) month_entry past, parts.credits owner inside, parts.target owner, want_paid owner inside);
           month_fund =
               omega
               (arith, since_closed (of_all hour_credit) month_entry past parts.month, since_closed collection month_entry past parts.month, since_closed (of_all charge) month_entry past parts.month);

@@ -25,13 +25,13 @@ use Rattle.settlement.proofs.Sane.{Sane}
 use Rattle.settlement.proofs.EntryParts.{Parts, over_next, since_next, none_of_all}
 use Rattle.settlement.proofs.Kept.{Kept}
 
-module _ (past : List Entry) (lent : List ℤ) (result : Settled) (written : List ℤ) where
+module _ (year : ℕ) (past : List Entry) (lent : List ℤ) (result : Settled) (written : List ℤ) where
   abbrev pub year_entry : Entry
   year_entry = record { call = year_end_call; lent = lent; result = result; written = written }
 
-  module _ (kept : Kept past (book_at past)) (parts : Parts past year_entry) (complete : months_in_year ≤ (book_at past).months) where
+  module _ (kept : Kept year past (book_at year past)) (parts : Parts year past year_entry) (complete : months_in_year ≤ (book_at year past).months) where
     abbrev book : Book
-    book = book_at past
+    book = book_at year past
 
     pub closed : book.months ≡ months_in_year
     closed = le_antisymm kept.sane.months_most complete
@@ -44,6 +44,7 @@ module _ (past : List Entry) (lent : List ℤ) (result : Settled) (written : Lis
     unfolding book_after fund
     sane_after =
         record {
+          in_range = kept.sane.in_range;
           hours_most = kept.sane.hours_most;
           months_most = kept.sane.months_most;
           after_last = kept.sane.after_last;
@@ -93,24 +94,25 @@ module _ (past : List Entry) (lent : List ℤ) (result : Settled) (written : Lis
             (omega
             (arith, (kept.empty_month closed).1, none_left year_end_call book (leb-false (demand year_end_call book) (fund year_end_call book) e)))
 
-    pub kept_year : Kept (year_entry ∷ past) (book_after year_end_call book)
+    pub kept_year : Kept year (year_entry ∷ past) (book_after year_end_call book)
     unfolding book_after unpaid_of
     kept_year =
         record {
+          same_year = kept.same_year;
           long = record { month = kept.long.month; year = length_list_below _ owners };
           sane = sane_after;
           hours = omega (arith, kept.hours, over_next hour_count year_entry past, parts.hour);
           months = omega (arith, kept.months, over_next month_end_count year_entry past, parts.month);
-          ended_after = λ _. omega (arith, over_next year_end_count year_entry past, parts.year);
+          ended_after = λ _. omega (arith, over_next year_end_count year_entry past, parts.year_end);
           ended_only = λ _. refl;
           month_owner =
               λ owner inside.
               omega
-              (arith, kept.month_owner owner inside, since_next (hour_credit owner) year_entry past parts.month, since_next (positive_target owner) year_entry past parts.month, parts.hour_credits owner inside, parts.target owner);
+              (arith, kept.month_owner owner inside, since_next (hour_credit owner) year_entry past parts.month, since_next (positive_target year owner) year_entry past parts.month, parts.hour_credits owner inside, parts.target owner);
           all_owner =
               λ owner inside.
               omega
-              (arith, year_after owner, kept.all_owner owner inside, over_next (credit owner) year_entry past, over_next (positive_target owner) year_entry past, parts.credits owner inside, parts.target owner, want_paid owner inside);
+              (arith, year_after owner, kept.all_owner owner inside, over_next (credit owner) year_entry past, over_next (positive_target year owner) year_entry past, parts.credits owner inside, parts.target owner, want_paid owner inside);
           month_fund =
               omega
               (arith, kept.month_fund, since_next (of_all hour_credit) year_entry past parts.month, since_next collection year_entry past parts.month, since_next (of_all charge) year_entry past parts.month, no_hour_credit, no_charge, parts.collected);

@@ -13,6 +13,7 @@ pub mod LineSigns
 pub mod NeverStuck
 pub mod NotSpoiled
 pub mod OneLedger
+pub mod Opening
 pub mod Paying
 pub mod Refusing
 pub mod RunLaws

@@ -14,6 +14,7 @@ use Rattle.numbers.specs.Limits.{owners}
 use Rattle.numbers.specs.Refusals.{◌if◌, first_refusal}
 use Rattle.numbers.proofs.Booleans.{both_true, neither_true}
 use Rattle.numbers.proofs.Refusals.{refusal_none, refusal_here, refusal_next, refusal_within}
+use Rattle.calendar.specs.Almanac.{is_outside}
 use Rattle.calendar.specs.Year.{hours_in_year, months_in_year, month_end, is_month_end}
 use Rattle.calendar.proofs.MonthEnds.{within_year}
 use Rattle.target.specs.Target.{is_wrong_lines}
@@ -34,10 +35,10 @@ due_by closing whole more =
 
 module _ (book : Book) (sane : Sane book) where
   abbrev closing : Bool
-  closing = is_month_end book.hours book.months
+  closing = is_month_end book.year book.hours book.months
 
   abbrev whole : Bool
-  whole = leb hours_in_year book.hours
+  whole = leb (hours_in_year book.year) book.hours
 
   abbrev more : Bool
   more = ltb book.months months_in_year
@@ -46,17 +47,17 @@ module _ (book : Book) (sane : Sane book) where
   one_due true true true _ _ _ = refl
   one_due true false true _ _ _ = refl
   one_due true w false c _ m =
-      absurd (false≢true (sym m ∙ (both_true more (eqb book.hours (month_end book.months)) c).0))
+      absurd (false≢true (sym m ∙ (both_true more (eqb book.hours (month_end book.year book.months)) c).0))
   one_due false false true _ _ _ = refl
   one_due false true true c w m =
       let open_month = ltb-true book.months months_in_year m in
       absurd
       (omega
-      (arith, leb-true hours_in_year book.hours w, sane.before_next open_month, within_year book.months open_month, still_ahead book c open_month))
+      (arith, leb-true (hours_in_year book.year) book.hours w, sane.before_next open_month, within_year book.year book.months open_month, still_ahead book c open_month))
   one_due false true false _ _ _ = refl
   one_due false false false _ w m =
       let all = le_antisymm sane.months_most (ltb-false book.months months_in_year m) in
-      absurd (omega (arith, leb-false hours_in_year book.hours w, sane.full all))
+      absurd (omega (arith, leb-false (hours_in_year book.year) book.hours w, sane.full all))
 
   due_count : book.ended ≡ false → due_events book ≡ 1
   unfolding is_due is_out_of_turn
@@ -68,7 +69,7 @@ module _ (book : Book) (sane : Sane book) where
   unfolding is_due refusal event_rows
   due_rows call places due =
       let parts = neither_true book.ended (is_out_of_turn (event_of call) book) (not-true (book.ended || is_out_of_turn (event_of call) book) due) in
-      refusal_next 1 _ (not_spoiled book sane) ∙ refusal_next 2 _ parts.0 ∙ refusal_next 3 _ parts.1
+      refusal_next 15 _ sane.in_range ∙ refusal_next 1 _ (not_spoiled book sane) ∙ refusal_next 2 _ parts.0 ∙ refusal_next 3 _ parts.1
 
   -- and with 64 lines its own rows alone
   pub due_own : (call : Call) (places : ℕ) → is_due (event_of call) book ≡ true → places ≡ owners
@@ -78,7 +79,7 @@ module _ (book : Book) (sane : Sane book) where
 
   ended_book : book.ended ≡ true → (call : Call) (places : ℕ) → refusal call book places ≡ 2
   unfolding refusal event_rows
-  ended_book ended call places = refusal_next 1 _ (not_spoiled book sane) ∙ refusal_here 2 _ ended
+  ended_book ended call places = refusal_next 15 _ sane.in_range ∙ refusal_next 1 _ (not_spoiled book sane) ∙ refusal_here 2 _ ended
 
   four_to_ten : (call : Call) (places : ℕ) → is_due (event_of call) book ≡ true
       → (refusal call book places ≡ 0) ⊎ ((4 ≤ refusal call book places) × (refusal call book places ≤ 10))
@@ -98,5 +99,6 @@ module _ (book : Book) (sane : Sane book) where
         over = ended_book;
       }
 
-pub goes_on_lem : (calls : List Asked) → GoesOn (book_at (ledger_of calls))
-goes_on_lem calls = sane_goes_on (book_at (ledger_of calls)) (kept_all (ledger_of calls) (is_ledger calls)).sane
+pub goes_on_lem : (year : ℕ) → is_outside year ≡ false → (calls : List Asked) → GoesOn (book_at year (ledger_of year calls))
+goes_on_lem year within calls =
+    sane_goes_on (book_at year (ledger_of year calls)) (kept_all year within (ledger_of year calls) (is_ledger year calls)).sane

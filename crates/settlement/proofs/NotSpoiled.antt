@@ -11,26 +11,27 @@ use Rattle.numbers.proofs.Booleans.{neither_true}
 use Rattle.calendar.specs.Year.{hours_in_year, months_in_year, month_end}
 use Rattle.settlement.specs.declared.Book.{Book}
 use Rattle.settlement.specs.Book.{last_end, most_surplus, all_shortfalls, fund_left, out_of_step, is_spoiled}
+use Rattle.calendar.proofs.AlmanacLaws.{most_hours, hours_most}
 
 -- hours and months in step are within the year
-module _ (hours months : ℕ) (ended : Bool) (clear : out_of_step hours months ended ≡ false) where
-  within : (ltb hours_in_year hours || ltb months_in_year months) ≡ false
+module _ (year hours months : ℕ) (ended : Bool) (clear : out_of_step year hours months ended ≡ false) where
+  within : (ltb (hours_in_year year) hours || ltb months_in_year months) ≡ false
   unfolding out_of_step
   within =
-      let off_month = ltb months months_in_year && not (leb (last_end months) hours && leb hours (month_end months)) in
-      let short = eqb months months_in_year && not (eqb hours hours_in_year) in
-      let past = ltb hours_in_year hours || ltb months_in_year months in
+      let off_month = ltb months months_in_year && not (leb (last_end year months) hours && leb hours (month_end year months)) in
+      let short = eqb months months_in_year && not (eqb hours (hours_in_year year)) in
+      let past = ltb (hours_in_year year) hours || ltb months_in_year months in
       (neither_true past off_month (neither_true (past || off_month) short (neither_true (past || off_month || short) _ clear).0).0).0
 
-  pub hours_within : hours ≤ hours_in_year
-  hours_within = ltb-false hours_in_year hours (neither_true (ltb hours_in_year hours) (ltb months_in_year months) within).0
+  pub hours_within : hours ≤ hours_in_year year
+  hours_within = ltb-false (hours_in_year year) hours (neither_true (ltb (hours_in_year year) hours) (ltb months_in_year months) within).0
 
   pub months_within : months ≤ months_in_year
-  months_within = ltb-false months_in_year months (neither_true (ltb hours_in_year hours) (ltb months_in_year months) within).1
+  months_within = ltb-false months_in_year months (neither_true (ltb (hours_in_year year) hours) (ltb months_in_year months) within).1
 
 module _ (book : Book) where
   abbrev is_astray : Bool
-  is_astray = out_of_step book.hours book.months book.ended
+  is_astray = out_of_step book.year book.hours book.months book.ended
 
   abbrev is_over : Bool
   is_over = ltb most_cents (all_shortfalls book)
@@ -49,7 +50,7 @@ module _ (book : Book) where
         ltb-false most_cents (all_shortfalls book) (neither_true is_astray is_over (neither_true (is_astray || is_over) _ clauses).0).1
 
     -- the surpluses leave room for more
-    pub surplus_within : fund_left book ≤ hours_in_year * most_surplus
+    pub surplus_within : fund_left book ≤ most_hours * most_surplus
     surplus_within =
         omega
-        (arith, hours_within book.hours book.months book.ended in_step, ltb-false (book.hours * most_surplus) (fund_left book) (neither_true (is_astray || is_over) _ clauses).1)
+        (arith, hours_most book.year, hours_within book.year book.hours book.months book.ended in_step, ltb-false (book.hours * most_surplus) (fund_left book) (neither_true (is_astray || is_over) _ clauses).1)

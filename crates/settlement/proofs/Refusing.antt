@@ -1,9 +1,9 @@
 -- The refusal table of an event, part by part as the code finds it, and what an event answers by it.
 -- Assumes nothing.
 use Prim.Native.Nat.{ℕ, ◌<◌, ◌≤◌}
-use mathlib.Core.Path.{◌≡◌, refl, sym, ap, ap₂, ◌∙◌}
+use mathlib.Core.Path.{◌≡◌, refl, sym, ap, ap₂, subst, ◌∙◌}
 use mathlib.Core.Bool.{Bool, true, false, ◌&&◌, false≢true}
-use mathlib.Core.Logic.{⊎_elim}
+use mathlib.Core.Logic.{⊎_elim, inl, inr}
 use mathlib.Core.List.{List, [], ◌∷◌, ◌++◌, append-nil}
 use native.Mathlib.Decide.{ℕ_discrete}
 use native.Mathlib.Omega.{arith}
@@ -16,8 +16,9 @@ use Rattle.numbers.specs.Lists.{IsLowest}
 use Rattle.std.specs.Prelude.{Ok, Err}
 use Rattle.numbers.specs.declared.refusal.Refusal.{Refusal}
 use Rattle.numbers.specs.Refusals.{Row, ◌if◌, first_refusal, answer_by, answered, number_in, record_in, refusal_of}
-use Rattle.numbers.proofs.Refusals.{is_within, refusal_here, refusal_next, refusal_clear, refusal_append, refusal_rest, refusal_both, refusal_skip, refusal_within, refusal_most, within_append, within_wider, answer_accepted, answer_refused, answered_err, number_back, record_back}
+use Rattle.numbers.proofs.Refusals.{is_within, refusal_here, refusal_next, refusal_clear, refusal_append, refusal_rest, refusal_both, refusal_skip, refusal_never, refusal_within, refusal_most, IsNumber, is_number, low_number, within_append, within_wider, answer_accepted, answer_refused, answered_err, number_back, record_back}
 use Rattle.numbers.proofs.Booleans.{both_true, neither_true}
+use Rattle.calendar.specs.Almanac.{is_outside}
 use Rattle.calendar.specs.Year.{hours_in_year, is_month_end}
 use Rattle.rights.specs.Layout.{record_count}
 use Rattle.rights.specs.Faults.{fault_at, any_fault, fault_rows}
@@ -34,27 +35,46 @@ use Rattle.settlement.specs.Events.{Settled, result_of, Call, hour_call, month_e
 -- ---- the rows that every event has
 
 module _ (event : Event) (book : Book) (places : ℕ) where
-  pub event_within : is_within 1 4 (event_rows event book places) ≡ true
+  pub event_within : is_within 1 15 (event_rows event book places) ≡ true
   unfolding event_rows
   event_within = refl
 
+  -- each number is a refusal's, and none is one that names a record
+  event_number : IsNumber (first_refusal (event_rows event book places))
+  unfolding event_rows
+  event_number = is_number _ refl
+
+  pub event_names_none : (k : ℕ) → 7 ≤ k → k ≤ 8 → first_refusal (event_rows event book places) ≡ k → ⊥
+  unfolding event_rows
+  event_names_none k low high is = by_number (ℕ_discrete k 7)
+    where
+      by_number : Dec (k ≡ 7) → ⊥
+      by_number (yes e) = refusal_never 7 (event_rows event book places) (omega arith) refl (is ∙ e)
+      by_number (no other) = refusal_never 8 (event_rows event book places) (omega arith) refl (is ∙ omega arith)
+
   -- none of them holds
   pub event_clear : first_refusal (event_rows event book places) ≡ 0
-      → (is_spoiled book ≡ false) × (book.ended ≡ false) × (is_out_of_turn event book ≡ false) × (places ≡ owners)
+      → (is_spoiled book ≡ false)
+      × (book.ended ≡ false)
+      × (is_out_of_turn event book ≡ false)
+      × (places ≡ owners)
+      × (is_outside book.year ≡ false)
   unfolding event_rows
   event_clear clear =
-      let r1 = refusal_clear 1 (is_spoiled book) _ (omega arith) clear in
+      let r0 = refusal_clear 15 (is_outside book.year) _ (omega arith) clear in
+      let r1 = refusal_clear 1 (is_spoiled book) _ (omega arith) r0.1 in
       let r2 = refusal_clear 2 book.ended _ (omega arith) r1.1 in
       let r3 = refusal_clear 3 (is_out_of_turn event book) _ (omega arith) r2.1 in
       let r4 = refusal_clear 4 _ [] (omega arith) r3.1 in
-      (r1.0, r2.0, r3.0, eqb-true places owners (not-false (eqb places owners) r4.0))
+      (r1.0, r2.0, r3.0, eqb-true places owners (not-false (eqb places owners) r4.0), r0.0)
 
 -- the hour of a book in turn is one of the year
-pub in_turn : (book : Book) → is_out_of_turn Hour book ≡ false → (is_month_end book.hours book.months ≡ false) × (book.hours < hours_in_year)
+pub in_turn : (book : Book) → is_out_of_turn Hour book ≡ false
+    → (is_month_end book.year book.hours book.months ≡ false) × (book.hours < hours_in_year book.year)
 unfolding is_out_of_turn
 in_turn book clear =
-    let both = neither_true (is_month_end book.hours book.months) (leb hours_in_year book.hours) clear in
-    (both.0, leb-false hours_in_year book.hours both.1)
+    let both = neither_true (is_month_end book.year book.hours book.months) (leb (hours_in_year book.year) book.hours) clear in
+    (both.0, leb-false (hours_in_year book.year) book.hours both.1)
 
 -- ---- from the rows of every event to its own
 
@@ -69,7 +89,7 @@ module _ (call : Call) (book : Book) (places : ℕ) where
   pub from_own : early ≡ 0 → refusal call book places ≡ first_refusal (own_rows call book)
   unfolding refusal
   from_own clear =
-      refusal_rest 1 4 (event_rows (event_of call) book places) (own_rows call book) (omega arith)
+      refusal_rest 1 15 (event_rows (event_of call) book places) (own_rows call book) (omega arith)
       (event_within (event_of call) book places) clear
 
   -- an event with no rows of its own
@@ -84,26 +104,26 @@ module _ (call : Call) (book : Book) (places : ℕ) where
   pub accepted_early : refusal call book places ≡ 0 → early ≡ 0
   unfolding refusal
   accepted_early clear =
-      (refusal_both 1 4 (event_rows (event_of call) book places) (own_rows call book) (omega arith)
+      (refusal_both 1 15 (event_rows (event_of call) book places) (own_rows call book) (omega arith)
       (event_within (event_of call) book places) clear).0
 
 -- ---- an hour's input: the rows of what is lent, the amount's, the records'
 
-module _ (file : List ℕ) (prices : List ℤ) (collected : ℤ) where
+module _ (year : ℕ) (file : List ℕ) (prices : List ℤ) (collected : ℤ) where
   abbrev lent : ℕ
   lent = first_refusal (lent_rows file prices)
 
   abbrev faults : List Row
-  faults = fault_rows (length prices) file
+  faults = fault_rows year (length prices) file
 
   abbrev input : ℕ
-  input = first_refusal (input_rows file prices collected)
+  input = first_refusal (input_rows year file prices collected)
 
-  pub input_within : is_within 4 8 (input_rows file prices collected) ≡ true
+  pub input_within : is_within 4 8 (input_rows year file prices collected) ≡ true
   unfolding input_rows
   input_within =
       within_append 4 8 (lent_rows file prices) _ (within_wider 4 5 4 8 (lent_rows file prices) (omega arith) (omega arith) (lent_within file prices))
-      (within_wider 7 8 4 8 faults (omega arith) (omega arith) (rows_within (length prices) file))
+      (within_wider 7 8 4 8 faults (omega arith) (omega arith) (rows_within year (length prices) file))
 
   from_lent : (lent ≡ 0 → ⊥) → input ≡ lent
   unfolding input_rows
@@ -121,12 +141,12 @@ module _ (file : List ℕ) (prices : List ℤ) (collected : ℤ) where
       (refusal_clear 6 (is_wild_amount collected) faults (omega arith) rest).0
 
   -- a target call over 64 lines, in an hour of the year
-  module _ (hour : ℕ) (inside : hour < hours_in_year) where
+  module _ (hour : ℕ) (within : is_outside year ≡ false) (inside : hour < hours_in_year year) where
     abbrev number : ℕ
-    number = target_refusal file prices hour owners
+    number = target_refusal year file prices hour owners
 
     called : number ≡ first_refusal (lent_rows file prices ++ faults)
-    called = lent_rows_lem file prices hour owners inside refl
+    called = lent_rows_lem year file prices hour owners within inside refl
 
     called_lent : (lent ≡ 0 → ⊥) → number ≡ lent
     called_lent some = called ∙ refusal_append (lent_rows file prices) faults some
@@ -144,7 +164,7 @@ module _ (file : List ℕ) (prices : List ℤ) (collected : ℤ) where
             let both = both_true (ltb 0 number) (ltb number 6) test in
             absurd
             (⊎_elim (λ none. omega (arith, ltb-true 0 number both.0, called_faults clear)) (λ high. omega (arith, ltb-true number 6 both.1, called_faults clear))
-            (refusal_within 7 8 faults (rows_within (length prices) file)))
+            (refusal_within 7 8 faults (rows_within year (length prices) file)))
 
     lent_clear : (ltb 0 number && ltb number 6) ≡ false → lent ≡ 0
     lent_clear test = by_lent (ℕ_discrete lent 0)
@@ -181,48 +201,45 @@ module _ (file : List ℕ) (prices : List ℤ) (collected : ℤ) (book : Book) w
   pub own_within : is_within 4 10 (own_rows call book) ≡ true
   unfolding own_rows
   own_within =
-      within_append 4 10 (input_rows file prices collected) sizes
-      (within_wider 4 8 4 10 (input_rows file prices collected) (omega arith) (omega arith) (input_within file prices collected))
+      within_append 4 10 (input_rows book.year file prices collected) sizes
+      (within_wider 4 8 4 10 (input_rows book.year file prices collected) (omega arith) (omega arith) (input_within book.year file prices collected))
       (within_wider 9 10 4 10 sizes (omega arith) (omega arith) size_within)
 
-  pub own_input : (input file prices collected ≡ 0 → ⊥) → input file prices collected ≡ first_refusal (own_rows call book)
+  pub own_input : (input book.year file prices collected ≡ 0 → ⊥) → input book.year file prices collected ≡ first_refusal (own_rows call book)
   unfolding own_rows
-  own_input some = sym (refusal_append (input_rows file prices collected) sizes some)
+  own_input some = sym (refusal_append (input_rows book.year file prices collected) sizes some)
 
-  pub own_size : input file prices collected ≡ 0 → first_refusal (own_rows call book) ≡ first_refusal sizes
+  pub own_size : input book.year file prices collected ≡ 0 → first_refusal (own_rows call book) ≡ first_refusal sizes
   unfolding own_rows
   own_size clear =
-      refusal_rest 4 8 (input_rows file prices collected) sizes (omega arith) (input_within file prices collected) clear
+      refusal_rest 4 8 (input_rows book.year file prices collected) sizes (omega arith) (input_within book.year file prices collected) clear
 
   -- 7 and 8 come only where some record has the fault
-  fault_refused : (places k : ℕ) → 7 ≤ k → k ≤ 8 → refusal call book places ≡ k → any_fault (length prices) file k ≡ true
+  fault_refused : (places k : ℕ) → 7 ≤ k → k ≤ 8 → refusal call book places ≡ k → any_fault book.year (length prices) file k ≡ true
   unfolding input_rows
   fault_refused places k low high is =
       by_early (ℕ_discrete (early call book places) 0)
     where
-      from_records : first_refusal ((6 if is_wild_amount collected) ∷ faults file prices collected) ≡ k → any_fault (length prices) file k ≡ true
+      from_records : first_refusal ((6 if is_wild_amount collected) ∷ faults book.year file prices collected) ≡ k → any_fault book.year (length prices) file k ≡ true
       from_records is =
-          fault_from_rows (length prices) file k (λ e. omega arith)
-          (refusal_skip k 6 (is_wild_amount collected) (faults file prices collected) (λ e. omega arith) is)
+          fault_from_rows book.year (length prices) file k (λ e. omega arith)
+          (refusal_skip k 6 (is_wild_amount collected) (faults book.year file prices collected) (λ e. omega arith) is)
 
-      by_lent : Dec (lent file prices collected ≡ 0) → input file prices collected ≡ k → any_fault (length prices) file k ≡ true
-      by_lent (yes clear) is = from_records (sym (past_lent file prices collected clear) ∙ is)
+      by_lent : Dec (lent book.year file prices collected ≡ 0) → input book.year file prices collected ≡ k → any_fault book.year (length prices) file k ≡ true
+      by_lent (yes clear) is = from_records (sym (past_lent book.year file prices collected clear) ∙ is)
       by_lent (no some) is =
           absurd
-          (omega (arith, from_lent file prices collected some, refusal_most 4 5 (lent_rows file prices) (lent_within file prices)))
+          (omega (arith, from_lent book.year file prices collected some, refusal_most 4 5 (lent_rows file prices) (lent_within file prices)))
 
-      by_input : Dec (input file prices collected ≡ 0) → first_refusal (own_rows call book) ≡ k → any_fault (length prices) file k ≡ true
-      by_input (no some) is = by_lent (ℕ_discrete (lent file prices collected) 0) (own_input some ∙ is)
+      by_input : Dec (input book.year file prices collected ≡ 0) → first_refusal (own_rows call book) ≡ k → any_fault book.year (length prices) file k ≡ true
+      by_input (no some) is = by_lent (ℕ_discrete (lent book.year file prices collected) 0) (own_input some ∙ is)
       by_input (yes clear) is =
           absurd
           (⊎_elim (λ none. omega (arith, own_size clear)) (λ late. omega (arith, own_size clear)) (refusal_within 9 10 sizes size_within))
 
-      by_early : Dec (early call book places ≡ 0) → any_fault (length prices) file k ≡ true
-      by_early (yes clear) = by_input (ℕ_discrete (input file prices collected) 0) (sym (from_own call book places clear) ∙ is)
-      by_early (no some) =
-          absurd
-          (omega
-          (arith, from_event call book places some, refusal_most 1 4 (event_rows (event_of call) book places) (event_within (event_of call) book places)))
+      by_early : Dec (early call book places ≡ 0) → any_fault book.year (length prices) file k ≡ true
+      by_early (yes clear) = by_input (ℕ_discrete (input book.year file prices collected) 0) (sym (from_own call book places clear) ∙ is)
+      by_early (no some) = absurd (event_names_none (event_of call) book places k low high (from_event call book places some ∙ is))
 
 -- ---- every call
 
@@ -238,40 +255,58 @@ unfolding refusal event_rows
 never_1 call book places sane is =
     let rows = (2 if book.ended) ∷ (3 if is_out_of_turn (event_of call) book) ∷ (4 if is_wrong_lines places) ∷ own_rows call book in
     let within = within_wider 4 10 2 10 (own_rows call book) (omega arith) (omega arith) (own_rows_within call book) in
+    let after_year = refusal_skip 1 15 (is_outside book.year) ((1 if is_spoiled book) ∷ rows) (λ e. omega arith) is in
     ⊎_elim (λ none. omega (arith, refusal_next 1 rows sane)) (λ high. omega (arith, refusal_next 1 rows sane)) (refusal_within 2 10 rows within)
 
--- every number of an event's table
-refusal_most_lem : (call : Call) (book : Book) (places : ℕ) → refusal call book places ≤ 10
-unfolding refusal
-refusal_most_lem call book places =
-    refusal_most 1 10 (event_rows (event_of call) book places ++ own_rows call book)
-    (within_append 1 10 (event_rows (event_of call) book places) (own_rows call book)
-    (within_wider 1 4 1 10 (event_rows (event_of call) book places) (omega arith) (omega arith) (event_within (event_of call) book places))
-    (within_wider 4 10 1 10 (own_rows call book) (omega arith) (omega arith) (own_rows_within call book)))
+-- a book of one of the calendar's years with 15 neither, nor with any number above 10
+pub refusal_most_lem : (call : Call) (book : Book) (places : ℕ) → is_outside book.year ≡ false → refusal call book places ≤ 10
+unfolding refusal event_rows
+refusal_most_lem call book places within =
+    let rows = (1 if is_spoiled book) ∷ (2 if book.ended) ∷ (3 if is_out_of_turn (event_of call) book) ∷ (4 if is_wrong_lines places) ∷ own_rows call book in
+    let most = refusal_most 1 10 rows (within_wider 4 10 1 10 (own_rows call book) (omega arith) (omega arith) (own_rows_within call book)) in
+    omega (arith, refusal_next 15 rows within)
+
+pub never_15 : (call : Call) (book : Book) (places : ℕ) → is_outside book.year ≡ false → refusal call book places ≡ 15 → ⊥
+never_15 call book places within is = omega (arith, refusal_most_lem call book places within)
+
+-- and a book of any other year is always refused with 15, "before any other check"
+pub always_15 : (call : Call) (book : Book) (places : ℕ) → is_outside book.year ≡ true → refusal call book places ≡ 15
+unfolding refusal event_rows
+always_15 _ book places outside = refusal_here 15 _ outside
+
+-- every number of an event's table is a refusal's
+refusal_number : (call : Call) (book : Book) (places : ℕ) → IsNumber (refusal call book places)
+refusal_number call book places = by_early (ℕ_discrete (early call book places) 0)
+  where
+    by_early : Dec (early call book places ≡ 0) → IsNumber (refusal call book places)
+    by_early (yes clear) =
+        subst IsNumber (sym (from_own call book places clear))
+        (low_number _ (omega (arith, refusal_most 4 10 (own_rows call book) (own_rows_within call book))))
+    by_early (no some) = subst IsNumber (from_event call book places some) (event_number (event_of call) book places)
 
 -- ---- the record number
 
 -- a refusal below 7 names none
-pub record_none : (call : Call) (number : ℕ) → number < 7 → record_of call number ≡ 0
+pub record_none : (call : Call) (year number : ℕ) → number < 7 → record_of call year number ≡ 0
 unfolding record_of
-record_none (hour_call file prices collected) k low = faulty_none (length prices) file k low
-record_none month_end_call k low = refl
-record_none year_end_call k low = refl
+record_none (hour_call file prices collected) year k low = faulty_none year (length prices) file k low
+record_none month_end_call year k low = refl
+record_none year_end_call year k low = refl
 
 -- any refusal but 7 and 8 names none
-pub record_other : (call : Call) (number : ℕ) → (number ≡ 7 → ⊥) → (number ≡ 8 → ⊥) → record_of call number ≡ 0
+pub record_other : (call : Call) (year number : ℕ) → (number ≡ 7 → ⊥) → (number ≡ 8 → ⊥) → record_of call year number ≡ 0
 unfolding record_of
-record_other (hour_call file prices collected) k not_7 not_8 = faulty_other (length prices) file k not_7 not_8
-record_other month_end_call k not_7 not_8 = refl
-record_other year_end_call k not_7 not_8 = refl
+record_other (hour_call file prices collected) year k not_7 not_8 = faulty_other year (length prices) file k not_7 not_8
+record_other month_end_call year k not_7 not_8 = refl
+record_other year_end_call year k not_7 not_8 = refl
 
 -- an hour refused with 7 or 8 names "the lowest one with that fault, all earlier records being free of it"
 pub names_first : (file : List ℕ) (prices : List ℤ) (collected : ℤ) (book : Book) (places k : ℕ) → 7 ≤ k → k ≤ 8
     → refusal (hour_call file prices collected) book places ≡ k
-    → IsLowest (fault_at (length prices) file k) (record_count file) (record_of (hour_call file prices collected) k)
+    → IsLowest (fault_at book.year (length prices) file k) (record_count file) (record_of (hour_call file prices collected) book.year k)
 unfolding record_of
 names_first file prices collected book places k low high is =
-    first_faulty (length prices) file k low high (fault_refused file prices collected book places k low high is)
+    first_faulty book.year (length prices) file k low high (fault_refused file prices collected book places k low high is)
 
 -- ---- what an event answers
 
@@ -281,14 +316,14 @@ module _ (call : Call) (book : Book) (lent : List ℤ) where
 
   -- a refused one: what it answers has the number and the record of the table
   pub refused_answer : {A : Type 0} (number faulty : ℕ) (value : A) {refusal : Refusal} → answered number faulty value ≡ Err refusal
-      → number ≡ table → faulty ≡ record_of call number → Answered call book lent (result_of (Err refusal) book) lent
+      → number ≡ table → faulty ≡ record_of call book.year number → Answered call book lent (result_of (Err refusal) book) lent
   refused_answer number faulty value {refusal} is e names =
       record {
         gives =
             λ i.
             record {
               refusal = (back ∙ e) i;
-              faulty = (named ∙ names ∙ ap (record_of call) e) i;
+              faulty = (named ∙ names ∙ ap (record_of call book.year) e) i;
               fund = sym (answer_refused _ (fund call book) 0 none) i;
               demand = sym (answer_refused _ (demand call book) 0 none) i;
               book = sym (answer_refused _ (book_after call book) book none) i;
@@ -299,14 +334,15 @@ module _ (call : Call) (book : Book) (lent : List ℤ) where
       some : (0 < number) × (refusal ≡ refusal_of number faulty)
       some = answered_err number faulty value is
 
-      within : number ≤ 11
-      within = omega (arith, e, refusal_most_lem call book (length lent))
+      has_number : IsNumber number → number_in (refusal_of number faulty) ≡ number
+      has_number (inl none) = absurd (omega (arith, some.0))
+      has_number (inr has) = number_back number faulty has
 
       back : number_in refusal ≡ number
-      back = ap number_in some.1 ∙ number_back number faulty some.0 within
+      back = ap number_in some.1 ∙ has_number (subst IsNumber (sym e) (refusal_number call book (length lent)))
 
       named : record_in refusal ≡ faulty
-      named = ap record_in some.1 ∙ record_back number faulty (λ not_7 not_8. names ∙ record_other call number not_7 not_8)
+      named = ap record_in some.1 ∙ record_back number faulty (λ not_7 not_8. names ∙ record_other call book.year number not_7 not_8)
 
       none : table ≡ 0 → ⊥
       none z = omega (arith, some.0, e ∙ z)
@@ -321,7 +357,7 @@ module _ (call : Call) (book : Book) (lent : List ℤ) where
             λ i.
             record {
               refusal = sym z i;
-              faulty = sym (record_none call (refusal call book (length lent)) (omega (arith, z))) i;
+              faulty = sym (record_none call book.year (refusal call book (length lent)) (omega (arith, z))) i;
               fund = (ap (λ (x : Funding). x.fund) f ∙ sym (answer_accepted _ (fund call book) 0 z)) i;
               demand = (ap (λ (x : Funding). x.demand) f ∙ sym (answer_accepted _ (demand call book) 0 z)) i;
               book = (b ∙ sym (answer_accepted _ (book_after call book) book z)) i;
@@ -334,7 +370,7 @@ module _ {call : Call} {book : Book} {lent : List ℤ} {result : Settled} {after
   pub gives_number : result.refusal ≡ refusal call book (length lent)
   gives_number = ap (λ (r : Settled). r.refusal) answered.gives
 
-  pub gives_record : result.faulty ≡ record_of call (refusal call book (length lent))
+  pub gives_record : result.faulty ≡ record_of call book.year (refusal call book (length lent))
   gives_record = ap (λ (r : Settled). r.faulty) answered.gives
 
   pub gives_fund : result.fund ≡ answer_by (refusal call book (length lent)) (fund call book) 0

@@ -17,6 +17,8 @@ use Rattle.settlement.proofs.Shares.{credit_is}
 use Rattle.settlement.proofs.EntryParts.{by_table_lem, written_is, accepted_parts}
 use Rattle.settlement.proofs.ClaimHolds.{kept_all}
 use Rattle.settlement.proofs.NeverStuck.{sane_goes_on}
+use Rattle.calendar.specs.Almanac.{is_outside}
+use mathlib.Core.Bool.{false}
 
 -- ---- sums
 
@@ -49,32 +51,32 @@ charged (hour_call file prices collected) book owner inside = refl
 charged month_end_call book owner inside = ap negative (get_or_list_below _ owners (pos 0) owner inside)
 charged year_end_call book owner inside = ap negative (get_or_list_below _ owners (pos 0) owner inside)
 
-module _ (past : List Entry) (entry : Entry)
-    (answered : Answered entry.call (book_at past) entry.lent entry.result entry.written)
+module _ (year : ℕ) (past : List Entry) (entry : Entry)
+    (answered : Answered entry.call (book_at year past) entry.lent entry.result entry.written)
     (accepted : entry.result.refusal ≡ 0) where
   pub written_long : length entry.written ≡ owners
-  written_long = ap length (written_is past entry answered accepted) ∙ lines_long entry.call (book_at past)
+  written_long = ap length (written_is year past entry answered accepted) ∙ lines_long entry.call (book_at year past)
 
-  line_is : (owner : ℕ) → line_of entry owner ≡ get_or (lines entry.call (book_at past)) owner (pos 0)
-  line_is owner = ap (λ (l : List ℤ). get_or l owner (pos 0)) (written_is past entry answered accepted)
+  line_is : (owner : ℕ) → line_of entry owner ≡ get_or (lines entry.call (book_at year past)) owner (pos 0)
+  line_is owner = ap (λ (l : List ℤ). get_or l owner (pos 0)) (written_is year past entry answered accepted)
 
   pub credit_line : (owner : ℕ) → owner < owners → credit owner past entry ≡ positive (line_of entry owner)
   credit_line owner inside =
-      (accepted_parts past entry answered accepted).credits owner inside
-      ∙ sym (ap positive (line_is owner) ∙ credit_is entry.call (book_at past) owner inside)
+      (accepted_parts year past entry answered accepted).credits owner inside
+      ∙ sym (ap positive (line_is owner) ∙ credit_is entry.call (book_at year past) owner inside)
 
   pub charge_line : (owner : ℕ) → owner < owners → charge owner past entry ≡ negative (line_of entry owner)
   charge_line owner inside =
-      (accepted_parts past entry answered accepted).charges owner inside
-      ∙ sym (ap negative (line_is owner) ∙ charged entry.call (book_at past) owner inside)
+      (accepted_parts year past entry answered accepted).charges owner inside
+      ∙ sym (ap negative (line_is owner) ∙ charged entry.call (book_at year past) owner inside)
 
   -- no year end was accepted before an accepted call
-  pub year_open : IsLedger past → sum_over year_end_count past ≡ 0
-  year_open ledger = by_count (sum_over year_end_count past) refl
+  pub year_open : is_outside year ≡ false → IsLedger year past → sum_over year_end_count past ≡ 0
+  year_open within ledger = by_count (sum_over year_end_count past) refl
     where
       by_count : (n : ℕ) → sum_over year_end_count past ≡ n → n ≡ 0
       by_count zero is = refl
       by_count (suc n) is =
-          let ended = (kept_all past ledger).ended_only (omega arith) in
-          let over = (sane_goes_on (book_at past) (kept_all past ledger).sane).over ended entry.call (length entry.lent) in
-          absurd (omega (arith, over, by_table_lem past entry answered accepted))
+          let ended = (kept_all year within past ledger).ended_only (omega arith) in
+          let over = (sane_goes_on (book_at year past) (kept_all year within past ledger).sane).over ended entry.call (length entry.lent) in
+          absurd (omega (arith, over, by_table_lem year past entry answered accepted))

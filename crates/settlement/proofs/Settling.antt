@@ -15,7 +15,8 @@ use Rattle.numbers.specs.Limits.{owners, most_cents}
 use Rattle.numbers.specs.Lists.{total}
 use Rattle.numbers.specs.Refusals.{answered, first_refusal}
 use Rattle.numbers.specs.Signs.{positive}
-use Rattle.numbers.proofs.Refusals.{refusal_most, refusal_never, answered_err, answered_ok}
+use Rattle.numbers.proofs.Refusals.{refusal_never, answered_err, answered_ok}
+use Rattle.calendar.specs.Almanac.{is_outside}
 use Rattle.calendar.specs.Year.{hours_in_year}
 use Rattle.rights.specs.Faults.{faulty_record}
 use Rattle.rights.proofs.Faults.{faulty_other}
@@ -30,17 +31,18 @@ use Rattle.settlement.proofs.NotSpoiled.{shortfalls_within, surplus_within}
 use Rattle.settlement.proofs.LineSigns.{amount_most}
 use Rattle.settlement.proofs.Paying.{payment_small, left_small}
 use Rattle.settlement.proofs.SharingOut.{size_clear}
-use Rattle.settlement.proofs.Refusing.{event_within, event_clear, in_turn, from_event, from_own, calm_amount, own_input, own_size, record_none, refused_answer, accepted_answer}
+use Rattle.settlement.proofs.Refusing.{record_other, event_names_none, event_clear, in_turn, from_event, from_own, calm_amount, own_input, own_size, refused_answer, accepted_answer}
+use Rattle.calendar.proofs.AlmanacLaws.{hours_most}
 
 -- what the rows of every event, the hour's input and its size answer
 abbrev event_answer : Book → ℕ → Result (Unit {0}) Refusal
 event_answer book places = answered (first_refusal (event_rows Hour book places)) 0 tt
 
-abbrev input_answer : List ℕ → List ℤ → ℕ → ℤ → Result (List ℤ) Refusal
-input_answer file prices hour collected =
-    answered (first_refusal (input_rows file prices collected))
-    (faulty_record (length prices) file (first_refusal (input_rows file prices collected)))
-    (targets file prices hour)
+abbrev input_answer : ℕ → List ℕ → List ℤ → ℕ → ℤ → Result (List ℤ) Refusal
+input_answer year file prices hour collected =
+    answered (first_refusal (input_rows year file prices collected))
+    (faulty_record year (length prices) file (first_refusal (input_rows year file prices collected)))
+    (targets year file prices hour)
 
 abbrev size_answer : Book → ℕ → List ℤ → Result Shares Refusal
 size_answer book collected found =
@@ -51,7 +53,8 @@ size_answer book collected found =
 pub record Begun (book : Book) (lent : List ℤ) : Type 0 where
   pub none : first_refusal (event_rows Hour book (length lent)) ≡ 0
   pub sound : is_spoiled book ≡ false
-  pub inside : book.hours < hours_in_year
+  pub within : is_outside book.year ≡ false
+  pub inside : book.hours < hours_in_year book.year
   pub long : length lent ≡ owners
 
 pub begun : (book : Book) (lent : List ℤ) {outcome : Result (Unit {0}) Refusal} {done : Unit {0}}
@@ -59,12 +62,12 @@ pub begun : (book : Book) (lent : List ℤ) {outcome : Result (Unit {0}) Refusal
 begun book lent is ok =
     let none = (answered_ok _ 0 tt (sym is ∙ ok)).0 in
     let clear = event_clear Hour book (length lent) none in
-    record { none = none; sound = clear.0; inside = (in_turn book clear.2).1; long = clear.3 }
+    record { none = none; sound = clear.0; within = clear.4; inside = (in_turn book clear.2).1; long = clear.3 }
 
 -- that its input lets pass too: its targets, and the amount collected
 pub record Aimed (file : List ℕ) (prices : List ℤ) (collected : ℤ) (book : Book) (lent : List ℤ) (found : List ℤ) (amount : ℕ) : Type 0 where
   pub start : Begun book lent
-  pub given : first_refusal (input_rows file prices collected) ≡ 0
+  pub given : first_refusal (input_rows book.year file prices collected) ≡ 0
   pub found_is : found ≡ next_targets file prices book
   pub amount_is : amount ≡ positive collected
 
@@ -83,15 +86,17 @@ module _ (file : List ℕ) (prices : List ℤ) (collected : ℤ) (book : Book) (
       → Answered event book lent (result_of (Err why) book) lent
   refused_early is err =
       let refused = sym is ∙ err in
-      let most = refusal_most 1 4 (event_rows Hour book (length lent)) (event_within Hour book (length lent)) in
       refused_answer event book lent _ 0 tt refused
       (from_event event book (length lent) (λ none. omega (arith, (answered_err _ 0 tt refused).0)))
-      (sym (record_none event _ (omega arith)))
+      (sym
+      (record_other event book.year _
+      (λ is_7. event_names_none Hour book (length lent) 7 (omega arith) (omega arith) is_7)
+      (λ is_8. event_names_none Hour book (length lent) 8 (omega arith) (omega arith) is_8)))
 
   -- the code's amount is read back from its bits
-  module _ (start : Begun book lent) (fits : FitsSigned w64 collected) {outcome : Result (List ℤ) Refusal} (is : outcome ≡ input_answer file prices book.hours (to_z w64 (of_z w64 collected))) where
-    asked : outcome ≡ input_answer file prices book.hours collected
-    asked = is ∙ ap (input_answer file prices book.hours) (to_z-of_z w64 _ fits)
+  module _ (start : Begun book lent) (fits : FitsSigned w64 collected) {outcome : Result (List ℤ) Refusal} (is : outcome ≡ input_answer book.year file prices book.hours (to_z w64 (of_z w64 collected))) where
+    asked : outcome ≡ input_answer book.year file prices book.hours collected
+    asked = is ∙ ap (input_answer book.year file prices book.hours) (to_z-of_z w64 _ fits)
 
     -- refused by its input
     pub refused_input : {why : Refusal} → outcome ≡ Err why → Answered event book lent (result_of (Err why) book) lent
@@ -113,7 +118,7 @@ module _ (file : List ℕ) (prices : List ℤ) (collected : ℤ) (book : Book) (
 module _ {file : List ℕ} {prices : List ℤ} {collected : ℤ} {book : Book} {lent : List ℤ} {found : List ℤ} {amount : ℕ} (aim : Aimed file prices collected book lent found amount) where
   pub may_share : (all_shortfalls book ≤ most_cents) × (amount ≤ most_collected)
   may_share =
-      let most = amount_most collected (calm_amount file prices collected aim.given) in
+      let most = amount_most collected (calm_amount book.year file prices collected aim.given) in
       (shortfalls_within book aim.start.sound, omega (arith, aim.amount_is))
 
   abbrev size : ℕ
@@ -125,9 +130,9 @@ module _ {file : List ℕ} {prices : List ℤ} {collected : ℤ} {book : Book} {
       ap₂ (λ (x : ℕ) (ts : List ℤ). first_refusal (size_rows book (hour_fund x ts) (hour_wants ts) (hour_charges ts))) aim.amount_is aim.found_is
       ∙ sym (from_own (hour_call file prices collected) book (length lent) aim.start.none ∙ own_size file prices collected book aim.given)
 
-  size_names : 0 ≡ record_of (hour_call file prices collected) size
+  size_names : 0 ≡ record_of (hour_call file prices collected) book.year size
   unfolding record_of size_rows
-  size_names = sym (faulty_other _ _ _ (λ e. refusal_never 7 _ (omega arith) refl e) (λ e. refusal_never 8 _ (omega arith) refl e))
+  size_names = sym (faulty_other _ _ _ _ (λ e. refusal_never 7 _ (omega arith) refl e) (λ e. refusal_never 8 _ (omega arith) refl e))
 
   module _ {outcome : Result Shares Refusal} (is : outcome ≡ size_answer book amount found) where
     -- refused by its size
@@ -152,7 +157,7 @@ module _ {file : List ℕ} {prices : List ℤ} {collected : ℤ} {book : Book} {
       let rest = ap (λ (x : Shares). x.paid.left) deal.shares_are in
       let part = left_small (hour_fund amount found) (hour_wants found) in
       let before = surplus_within book deal.aim.start.sound in
-      (omega arith, omega (arith, small.1, (may_share deal.aim).1))
+      (omega (arith, hours_most book.year), omega (arith, small.1, (may_share deal.aim).1))
 
   pub settled_hour : {after : List ℤ} {next : Book} → after ≡ hour_lines found shares.paid.payments
       → next ≡ book_after_hour book shares.monthshort shares.paid.left

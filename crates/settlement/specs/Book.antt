@@ -1,15 +1,18 @@
 -- The book: what it holds, and when it is spoiled.
 -- Assumes nothing.
-use Rattle.std.specs.Prelude.{ℕ, zero, suc, ◌+◌, ◌*◌, Bool, false, not, ◌&&◌, ◌||◌, leb, ltb, eqb, get_or, replicate}
+use Rattle.std.specs.Prelude.{ℕ, zero, suc, ◌+◌, ◌*◌, Bool, false, not, ◌&&◌, ◌||◌, [], ◌∷◌, leb, ltb, eqb, get_or, replicate}
 use Rattle.numbers.specs.Limits.{owners, most_cents}
 use Rattle.numbers.specs.Lists.{total}
+use Rattle.numbers.specs.Refusals.{◌if◌, first_refusal, answer_by}
+use Rattle.calendar.specs.Almanac.{is_outside}
 use Rattle.calendar.specs.Year.{hours_in_year, months_in_year, month_end}
 use Rattle.settlement.specs.declared.Book.{Book}
 
--- "all 0 when fresh"
-unfoldable pub fresh : Book
-fresh =
+-- "all 0 when fresh", and of its year: "A book opens with its year and keeps it"
+unfoldable pub fresh : ℕ → Book
+fresh year =
     record {
+      year = year;
       hours = 0;
       months = 0;
       ended = false;
@@ -18,6 +21,13 @@ fresh =
       monthsurplus = 0;
       yearsurplus = 0;
     }
+
+-- 15: "opening a book gives it too, with a book all 0, year included"
+unfoldable pub year_refusal : ℕ → ℕ
+year_refusal year = first_refusal ((15 if is_outside year) ∷ [])
+
+unfoldable pub opened : ℕ → Book
+opened year = answer_by (year_refusal year) (fresh year) (fresh 0)
 
 -- "a month and a year shortfall for each owner"
 abbrev pub month_short : Book → ℕ → ℕ
@@ -50,29 +60,30 @@ most_collected = 4_000_000_000_000
 abbrev pub most_surplus : ℕ
 most_surplus = most_collected + most_cents
 
--- "the last closed month's end (0 if none)"
-abbrev pub last_end : ℕ → ℕ
-last_end zero = 0
-last_end (suc month) = month_end month
+-- "the last closed month's end (0 if none)"; month ends "come from that year", the book's
+abbrev pub last_end : ℕ → ℕ → ℕ
+last_end year zero = 0
+last_end year (suc month) = month_end year month
 
 -- "hours not between the last closed month's end (0 if none) and the next one's, both included", while there is a next one
-abbrev pub off_month : ℕ → ℕ → Bool
-off_month hours months = ltb months months_in_year && not (leb (last_end months) hours && leb hours (month_end months))
+abbrev pub off_month : ℕ → ℕ → ℕ → Bool
+off_month year hours months =
+    ltb months months_in_year && not (leb (last_end year months) hours && leb hours (month_end year months))
 
--- the cases of 1 by hours, months and mark alone: "hours above 8,760; months closed above 12; hours not between ..; hours not 8,760 with
--- 12 months closed; ended with months below 12"
-unfoldable pub out_of_step : ℕ → ℕ → Bool → Bool
-out_of_step hours months ended =
-    ltb hours_in_year hours
+-- the cases of 1 by year, hours, months and mark alone: "hours above 8,760; months closed above 12; hours not between ..; hours not 8,760
+-- with 12 months closed; ended with months below 12", where "the top hour .. come[s] from that year"
+unfoldable pub out_of_step : ℕ → ℕ → ℕ → Bool → Bool
+out_of_step year hours months ended =
+    ltb (hours_in_year year) hours
     || ltb months_in_year months
-    || off_month hours months
-    || (eqb months months_in_year && not (eqb hours hours_in_year))
+    || off_month year hours months
+    || (eqb months months_in_year && not (eqb hours (hours_in_year year)))
     || (ended && ltb months months_in_year)
 
 -- 1, spoiled book: those cases, and "all shortfalls together above 4,000,000,000; surpluses together above hours times
 -- 4,004,000,000,000"
 unfoldable pub is_spoiled : Book → Bool
 is_spoiled book =
-    out_of_step book.hours book.months book.ended
+    out_of_step book.year book.hours book.months book.ended
     || ltb most_cents (all_shortfalls book)
     || ltb (book.hours * most_surplus) (fund_left book)

@@ -1,5 +1,5 @@
--- The claim over every list of calls from a fresh book. All but the open shortfalls and the fund left is read from the calls and the
--- lines written; the entries below an entry are its past.
+-- The claim over every list of calls from a fresh book, for every year: "Lists of events are judged for every such year" (Wish 7). All but
+-- the open shortfalls and the fund left is read from the calls and the lines written; the entries below an entry are its past.
 -- Assumes nothing.
 use Rattle.std.specs.Prelude.{ℕ, ◌+◌, ◌≤◌, ◌<◌, ◌≡◌, true, false, ◌⊎◌, List, [], ◌∷◌, length}
 use Rattle.numbers.specs.Limits.{owners}
@@ -11,11 +11,11 @@ use Rattle.settlement.specs.Ledger.{Entry, book_at, sum_over, sum_since, hour_co
 
 -- "Owed to it, and so its want": at an hour its positive target; at a month end its positive targets less its credits in the accepted
 -- hours since the last accepted month end, or since the start; at a year end the same over all accepted hours and month ends before
-abbrev pub IsOwed : List Entry → Entry → Call → ℕ → ℕ → Type 0
-IsOwed past entry (hour_call file prices collected) owner want = want ≡ positive_target owner past entry
-IsOwed past entry month_end_call owner want =
-    want + sum_since (hour_credit owner) past ≡ sum_since (positive_target owner) past
-IsOwed past entry year_end_call owner want = want + sum_over (credit owner) past ≡ sum_over (positive_target owner) past
+abbrev pub IsOwed : ℕ → List Entry → Entry → Call → ℕ → ℕ → Type 0
+IsOwed year past entry (hour_call file prices collected) owner want = want ≡ positive_target year owner past entry
+IsOwed year past entry month_end_call owner want =
+    want + sum_since (hour_credit owner) past ≡ sum_since (positive_target year owner) past
+IsOwed year past entry year_end_call owner want = want + sum_over (credit owner) past ≡ sum_over (positive_target year owner) past
 
 -- "F is at an hour the amount collected plus all charges; at the other two, over those same calls and all owners, collected plus
 -- charges less credits"
@@ -28,9 +28,9 @@ IsFund past entry year_end_call fund =
 
 -- an accepted call: "The accepted call reports this F and D, and they and the wants give the exact share"; each credit, zero included,
 -- is at most its want and less than one cent from the exact share
-pub record Shared (past : List Entry) (entry : Entry) : Type 0 where
+pub record Shared (year : ℕ) (past : List Entry) (entry : Entry) : Type 0 where
   pub want : ℕ → ℕ
-  pub owed : (owner : ℕ) → owner < owners → IsOwed past entry entry.call owner (want owner)
+  pub owed : (owner : ℕ) → owner < owners → IsOwed year past entry entry.call owner (want owner)
   pub fund_is : IsFund past entry entry.call entry.result.fund
   pub demand_is : entry.result.demand ≡ total (list_below want owners)
   pub at_most : (owner : ℕ) → owner < owners → credit owner past entry ≤ want owner
@@ -38,38 +38,43 @@ pub record Shared (past : List Entry) (entry : Entry) : Type 0 where
       → WithinACent entry.result.fund entry.result.demand (want owner) (credit owner past entry)
 
 -- at each entry
-pub record Sound (past : List Entry) (entry : Entry) : Type 0 where
-  -- "In such a list 1 never comes"
+pub record Sound (year : ℕ) (past : List Entry) (entry : Entry) : Type 0 where
+  -- "In such a list 1 never comes", and 15 neither
   pub never_spoiled : entry.result.refusal ≡ 1 → ⊥
+  pub never_outside : entry.result.refusal ≡ 15 → ⊥
+  -- "A book opens with its year and keeps it"
+  pub same_year : (book_at year past).year ≡ year
   -- "hours settled and months closed count the accepted hours and month ends before"
-  pub hours : (book_at past).hours ≡ sum_over hour_count past
-  pub months : (book_at past).months ≡ sum_over month_end_count past
+  pub hours : (book_at year past).hours ≡ sum_over hour_count past
+  pub months : (book_at year past).months ≡ sum_over month_end_count past
   -- "the book is ended exactly if a year end was accepted before"
-  pub ended_after : (book_at past).ended ≡ true → 0 < sum_over year_end_count past
-  pub ended_only : 0 < sum_over year_end_count past → (book_at past).ended ≡ true
+  pub ended_after : (book_at year past).ended ≡ true → 0 < sum_over year_end_count past
+  pub ended_only : 0 < sum_over year_end_count past → (book_at year past).ended ≡ true
   -- "each owner's open shortfall before a call is its positive targets less its credits so far"
   pub open_before : (owner : ℕ) → owner < owners
-      → open_shortfall (book_at past) owner + sum_over (credit owner) past ≡ sum_over (positive_target owner) past
+      → open_shortfall (book_at year past) owner + sum_over (credit owner) past ≡ sum_over (positive_target year owner) past
   -- "Accepted are exactly the calls that no refusal case covers": the table's number for the book it was given is the one reported
-  pub by_table : entry.result.refusal ≡ refusal entry.call (book_at past) (length entry.lent)
+  pub by_table : entry.result.refusal ≡ refusal entry.call (book_at year past) (length entry.lent)
   -- "and their lines are those of the rules above"
-  pub by_rules : entry.result.refusal ≡ 0 → entry.written ≡ lines entry.call (book_at past)
+  pub by_rules : entry.result.refusal ≡ 0 → entry.written ≡ lines entry.call (book_at year past)
   -- "Lent lines stay untouched by a refusal", and so does the book
-  pub untouched : (entry.result.refusal ≡ 0 → ⊥) → (entry.written ≡ entry.lent) × (entry.result.book ≡ book_at past)
-  pub shared : entry.result.refusal ≡ 0 → Shared past entry
+  pub untouched : (entry.result.refusal ≡ 0 → ⊥) → (entry.written ≡ entry.lent) × (entry.result.book ≡ book_at year past)
+  pub shared : entry.result.refusal ≡ 0 → Shared year past entry
 
-abbrev pub SoundAtEach : List Entry → Type 0
-SoundAtEach [] = Unit {0}
-SoundAtEach (entry ∷ past) = Sound past entry × SoundAtEach past
+abbrev pub SoundAtEach : ℕ → List Entry → Type 0
+SoundAtEach year [] = Unit {0}
+SoundAtEach year (entry ∷ past) = Sound year past entry × SoundAtEach year past
 
 -- demand 3, one claim about the whole list
-pub record Claim (ledger : List Entry) : Type 0 where
-  pub sound : SoundAtEach ledger
+pub record Claim (year : ℕ) (ledger : List Entry) : Type 0 where
+  pub sound : SoundAtEach year ledger
+  -- the book keeps its year to the end
+  pub keeps_year : (book_at year ledger).year ≡ year
   -- "collected plus charges equals credits plus the fund left"
-  pub closes : sum_over collection ledger + sum_over (of_all charge) ledger ≡ sum_over (of_all credit) ledger + fund_left (book_at ledger)
+  pub closes : sum_over collection ledger + sum_over (of_all charge) ledger ≡ sum_over (of_all credit) ledger + fund_left (book_at year ledger)
   -- "each owner's positive targets equal its credits plus its open shortfall"
   pub owner_closes : (owner : ℕ) → owner < owners
-      → sum_over (positive_target owner) ledger ≡ sum_over (credit owner) ledger + open_shortfall (book_at ledger) owner
+      → sum_over (positive_target year owner) ledger ≡ sum_over (credit owner) ledger + open_shortfall (book_at year ledger) owner
   -- "after an accepted year end the fund is empty or no owner is short"
   pub year_closes : 0 < sum_over year_end_count ledger
-      → (fund_left (book_at ledger) ≡ 0) ⊎ ((owner : ℕ) → owner < owners → is_short (book_at ledger) owner ≡ false)
+      → (fund_left (book_at year ledger) ≡ 0) ⊎ ((owner : ℕ) → owner < owners → is_short (book_at year ledger) owner ≡ false)

@@ -7,6 +7,7 @@ use Rattle.numbers.specs.Lists.{total, list_below}
 use Rattle.numbers.specs.declared.refusal.Refusal.{Refusal}
 use Rattle.numbers.specs.Refusals.{Row, ◌if◌, first_refusal, answer_by, number_in, record_in}
 use Rattle.numbers.specs.Signs.{positive, negative}
+use Rattle.calendar.specs.Almanac.{is_outside}
 use Rattle.calendar.specs.Year.{hours_in_year, months_in_year, is_month_end}
 use Rattle.rights.specs.Faults.{fault_rows, faulty_record}
 use Rattle.split.specs.declared.Limits.{Limits}
@@ -32,9 +33,9 @@ event_of year_end_call = YearEnd
 
 -- ---- wants, F and D
 
--- the targets of the book's next hour, and an owner's among 64 targets
+-- the targets of the book's next hour, in its year, and an owner's among 64 targets
 abbrev pub next_targets : List ℕ → List ℤ → Book → List ℤ
-next_targets file prices book = targets file prices book.hours
+next_targets file prices book = targets book.year file prices book.hours
 
 abbrev pub target_of : List ℤ → ℕ → ℤ
 target_of targets owner = get_or targets owner (pos 0)
@@ -109,6 +110,7 @@ added_to cells more = list_below (λ owner. get_or cells owner 0 + get_or more o
 abbrev pub book_after_hour : Book → List ℕ → ℕ → Book
 book_after_hour book month_cells rest =
     record {
+      year = book.year;
       hours = book.hours + 1;
       months = book.months;
       ended = book.ended;
@@ -122,6 +124,7 @@ book_after_hour book month_cells rest =
 abbrev pub book_after_month : Book → List ℕ → ℕ → Book
 book_after_month book year_cells rest =
     record {
+      year = book.year;
       hours = book.hours;
       months = book.months + 1;
       ended = book.ended;
@@ -135,6 +138,7 @@ book_after_month book year_cells rest =
 abbrev pub book_after_year : Book → List ℕ → ℕ → Book
 book_after_year book unpaid_cells rest =
     record {
+      year = book.year;
       hours = book.hours;
       months = book.months;
       ended = true;
@@ -163,10 +167,10 @@ book_after year_end_call book =
 -- ---- refusals
 
 -- 3: "hour while a month end is due or after 8,760; month end unless the hours stand at the next month's end; year end before 12
--- months"
+-- months", with the month ends and the top hour of the book's year
 unfoldable pub is_out_of_turn : Event → Book → Bool
-is_out_of_turn Hour book = is_month_end book.hours book.months || leb hours_in_year book.hours
-is_out_of_turn MonthEnd book = not (is_month_end book.hours book.months)
+is_out_of_turn Hour book = is_month_end book.year book.hours book.months || leb (hours_in_year book.year) book.hours
+is_out_of_turn MonthEnd book = not (is_month_end book.year book.hours book.months)
 is_out_of_turn YearEnd book = ltb book.months months_in_year
 
 -- an event is due exactly if neither 2, "year over", nor 3, "out of turn", covers it
@@ -177,14 +181,17 @@ is_due event book = not (book.ended || is_out_of_turn event book)
 abbrev pub is_wild_amount : ℤ → Bool
 is_wild_amount collected = lt_z collected (pos 0) || lt_z (pos most_collected) collected
 
--- the rows that every event has: 1, 2, 3, and 4 for its lines
+-- the rows that every event has: 15 "before any other check", then 1, 2, 3, and 4 for its lines
 unfoldable pub event_rows : Event → Book → ℕ → List Row
 event_rows event book places =
-    (1 if is_spoiled book) ∷ (2 if book.ended) ∷ (3 if is_out_of_turn event book) ∷ (4 if is_wrong_lines places) ∷ []
+    (15 if is_outside book.year)
+    ∷ (1 if is_spoiled book)
+    ∷ (2 if book.ended) ∷ (3 if is_out_of_turn event book) ∷ (4 if is_wrong_lines places) ∷ []
 
--- the rows of an hour's rights, prices and amount: 4 to 8
-unfoldable pub input_rows : List ℕ → List ℤ → ℤ → List Row
-input_rows file prices collected = lent_rows file prices ++ ((6 if is_wild_amount collected) ∷ fault_rows (length prices) file)
+-- the rows of an hour's rights, prices and amount in a year: 4 to 8
+unfoldable pub input_rows : ℕ → List ℕ → List ℤ → ℤ → List Row
+input_rows year file prices collected =
+    lent_rows file prices ++ ((6 if is_wild_amount collected) ∷ fault_rows year (length prices) file)
 
 -- the rows of an hour's size, by its F, wants and charges: 9, "positive targets, or charges, above 4,000,000,000 in total"; 10, "all
 -- shortfalls after the hour would pass 4,000,000,000"
@@ -198,7 +205,7 @@ size_rows book fund wants charges =
 -- the rows that an event has beside those of every event: an hour alone has some
 unfoldable pub own_rows : Call → Book → List Row
 own_rows (hour_call file prices collected) book =
-    input_rows file prices collected
+    input_rows book.year file prices collected
     ++ size_rows book (fund (hour_call file prices collected) book) (wants (hour_call file prices collected) book)
     (hour_charges (next_targets file prices book))
 own_rows month_end_call book = []
@@ -208,11 +215,11 @@ own_rows year_end_call book = []
 unfoldable pub refusal : Call → Book → ℕ → ℕ
 refusal call book places = first_refusal (event_rows (event_of call) book places ++ own_rows call book)
 
--- the record number of a result: in an hour's 7 and 8 "the lowest one with that fault" (Wish 3), else 0
-unfoldable pub record_of : Call → ℕ → ℕ
-record_of (hour_call file prices collected) number = faulty_record (length prices) file number
-record_of month_end_call number = 0
-record_of year_end_call number = 0
+-- the record number of a result, on a book of this year: in an hour's 7 and 8 "the lowest one with that fault" (Wish 3), else 0
+unfoldable pub record_of : Call → ℕ → ℕ → ℕ
+record_of (hour_call file prices collected) year number = faulty_record year (length prices) file number
+record_of month_end_call year number = 0
+record_of year_end_call year number = 0
 
 -- ---- what an event gives, for any book and any lent lines
 
@@ -239,7 +246,7 @@ abbrev pub settled : Call → Book → ℕ → Settled
 settled call book places =
     record {
       refusal = refusal call book places;
-      faulty = record_of call (refusal call book places);
+      faulty = record_of call book.year (refusal call book places);
       fund = answer_by (refusal call book places) (fund call book) 0;
       demand = answer_by (refusal call book places) (demand call book) 0;
       book = answer_by (refusal call book places) (book_after call book) book;

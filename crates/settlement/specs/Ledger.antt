@@ -25,11 +25,11 @@ pub record Asked : Type 0 where
 abbrev pub asked : Entry → Asked
 asked entry = record { call = entry.call; lent = entry.lent }
 
--- the book after a list of entries, newest first: "The first is handed a fresh book, every later one the book that the call before
--- it gave, refused or not"
-unfoldable pub book_at : List Entry → Book
-book_at [] = fresh
-book_at (entry ∷ past) = entry.result.book
+-- the book after a list of entries, newest first, which began with the fresh book of this year: "The first is handed a fresh book, every later
+-- one the book that the call before it gave, refused or not"
+unfoldable pub book_at : ℕ → List Entry → Book
+book_at year [] = fresh year
+book_at year (entry ∷ past) = entry.result.book
 
 -- the entry that a call makes on a book, by the events' definitions alone
 abbrev pub entry_on : Book → Asked → Entry
@@ -41,16 +41,16 @@ entry_on book asked =
       written = lines_after asked.call book asked.lent;
     }
 
--- the ledger of a list of calls, newest first, from a fresh book
-unfoldable pub ledger_of : List Asked → List Entry
-ledger_of [] = []
-ledger_of (asked ∷ before) = entry_on (book_at (ledger_of before)) asked ∷ ledger_of before
+-- the ledger of a list of calls, newest first, from a fresh book of this year
+unfoldable pub ledger_of : ℕ → List Asked → List Entry
+ledger_of year [] = []
+ledger_of year (asked ∷ before) = entry_on (book_at year (ledger_of year before)) asked ∷ ledger_of year before
 
 -- a ledger: each entry is answered, as the events' contracts say, on the book that the entries below it gave
-abbrev pub IsLedger : List Entry → Type 0
-IsLedger [] = Unit {0}
-IsLedger (entry ∷ past) =
-    Answered entry.call (book_at past) entry.lent entry.result entry.written × IsLedger past
+abbrev pub IsLedger : ℕ → List Entry → Type 0
+IsLedger year [] = Unit {0}
+IsLedger year (entry ∷ past) =
+    Answered entry.call (book_at year past) entry.lent entry.result entry.written × IsLedger year past
 
 -- ---- what an entry contributes, its past being the entries below it; a refused one contributes nothing
 
@@ -94,15 +94,15 @@ sum_since part [] = 0
 sum_since part (entry ∷ past) =
     answer_by (month_end_count past entry) (part past entry + sum_since part past) 0
 
--- "an owner's positive target is its target, or 0 if that is negative", in the hour "whose number is the count of accepted hours
--- before it"
-abbrev pub call_positive : Call → ℕ → ℕ → ℕ
-call_positive (hour_call file prices collected) hour owner = positive (target file prices hour owner)
-call_positive month_end_call hour owner = 0
-call_positive year_end_call hour owner = 0
+-- "an owner's positive target is its target, or 0 if that is negative", in the year of the list and in the hour "whose number is the count
+-- of accepted hours before it"
+abbrev pub call_positive : Call → ℕ → ℕ → ℕ → ℕ
+call_positive (hour_call file prices collected) year hour owner = positive (target year file prices hour owner)
+call_positive month_end_call year hour owner = 0
+call_positive year_end_call year hour owner = 0
 
-unfoldable pub positive_target : ℕ → List Entry → Entry → ℕ
-positive_target owner past entry = if_accepted entry (call_positive entry.call (sum_over hour_count past) owner)
+unfoldable pub positive_target : ℕ → ℕ → List Entry → Entry → ℕ
+positive_target year owner past entry = if_accepted entry (call_positive entry.call year (sum_over hour_count past) owner)
 
 -- the line written for an owner
 abbrev pub line_of : Entry → ℕ → ℤ

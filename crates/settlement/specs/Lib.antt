@@ -4,5 +4,6 @@ pub mod Events
 pub mod Ends
 pub mod InnerContracts
 pub mod Ledger
+pub mod Opening
 pub mod Progress
 pub mod WholeYear

@@ -1,6 +1,7 @@
 // The events on a book in place. A refused one leaves the book and the lines as they were.
-ghost use Rattle.std.specs.Prelude.{◌<◌, ◌≡◌, length};
+ghost use Rattle.std.specs.Prelude.{◌<◌, ◌≡◌, false, length};
 ghost use Rattle.numbers.specs.Refusals.{answered, first_refusal};
+ghost use Rattle.calendar.specs.Almanac.{is_outside};
 ghost use Rattle.calendar.specs.Year.{hours_in_year};
 ghost use Rattle.rights.specs.Faults.{faulty_record};
 ghost use Rattle.target.specs.Target.{targets};
@@ -23,7 +24,7 @@ impl Book {
         ensures { Answered (hour_call rights.now prices.now collected) self.old lines.old (result_of result self.new) lines.new }
     {
         refusals::of_event(self, Event::Hour, lines.len())?;
-        let targets = hour_targets(rights, prices, self.hours, collected)?;
+        let targets = hour_targets(self.year, rights, prices, self.hours, collected)?;
         let shares = payment::share_out(self, numbers::positive_part(collected), &targets)?;
         lines.copy_from_slice(&lines::of_hour(&targets, &shares.paid.payments));
         self.after_hour(shares.monthshort, shares.paid.left);
@@ -55,16 +56,17 @@ impl Book {
 
 // The targets of an hour, or the refusal that its rights, prices and amount call for. It is given what the event is given, once.
 fn hour_targets(
+    year: u64,
     rights: &[u8],
     prices: &[i32],
     hour: u64,
     collected: i64,
 ) -> Result<[i64; OWNERS], Refusal>
-    requires { hour < hours_in_year }
-    ensures { result ≡ answered (first_refusal (input_rows rights.now prices.now collected)) (faulty_record (length prices.now) rights.now (first_refusal (input_rows rights.now prices.now collected))) (targets rights.now prices.now hour) }
+    requires { (is_outside year ≡ false) × (hour < hours_in_year year) }
+    ensures { result ≡ answered (first_refusal (input_rows year rights.now prices.now collected)) (faulty_record year (length prices.now) rights.now (first_refusal (input_rows year rights.now prices.now collected))) (targets year rights.now prices.now hour) }
 {
     let mut targets = [0i64; OWNERS];
-    let outcome = target::targets(rights, prices, hour, &mut targets);
+    let outcome = target::targets(year, rights, prices, hour, &mut targets);
     if is_wild_amount(collected) & !is_before_amount(outcome) {
         return Err(Refusal::WildAmount);
     }

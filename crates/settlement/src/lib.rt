@@ -4,6 +4,7 @@
 
 ghost use Rattle.std.specs.Prelude.{◌≡◌};
 ghost use Rattle.settlement.specs.Book.{fresh as freshBook};
+ghost use Rattle.settlement.specs.Opening.{book_opening};
 ghost use Rattle.settlement.specs.Events.{hour_call, month_end_call, year_end_call, in_numbers, is_due, Answered};
 ghost use Rattle.settlement.specs.Ends.{end_call, event_at};
 
@@ -20,9 +21,10 @@ mod spoiled;
 // The most cents collected in an hour.
 pub(crate) const MOST_COLLECTED: u64 = 4_000_000_000_000;
 
-// What is settled and what is open. Amounts are cents; a caller may hand over any book.
+// The year, what is settled and what is open. Amounts are cents; a caller may hand over any book.
 #[derive(Clone, Copy)]
 pub struct Book {
+    pub year: u64,
     pub hours: u64,
     pub months: u64,
     pub ended: bool,
@@ -30,6 +32,13 @@ pub struct Book {
     pub yearshort: [u64; OWNERS],
     pub monthsurplus: u64,
     pub yearsurplus: u64,
+}
+
+// What opening a book gives: the book, and whether there is such a year.
+#[derive(Clone, Copy)]
+pub struct Opened {
+    pub book: Book,
+    pub outcome: Result<(), Refusal>,
 }
 
 // What can happen to a book.
@@ -73,12 +82,30 @@ pub struct Settled {
 }
 
 impl Book {
-    // The book before the first hour.
+    // The book of a year before its first hour; a book all 0, year included, where the calendar has no such year.
+    #[tactic(auto, unfolding(crate::specs::Book::opened, crate::specs::Book::year_refusal, numbers::specs::Refusals::first_refusal))]
+    pub fn open(year: u64) -> Opened
+        ensures { result ≡ book_opening year }
+    {
+        if calendar::is_outside(year) {
+            return Opened {
+                book: Book::fresh(0),
+                outcome: Err(Refusal::NoSuchYear),
+            };
+        }
+        Opened {
+            book: Book::fresh(year),
+            outcome: Ok(()),
+        }
+    }
+
+    // The book before the first hour, of any number as a year.
     #[tactic(auto, unfolding(crate::specs::Book::fresh))]
-    pub fn fresh() -> Book
-        ensures { result ≡ freshBook }
+    fn fresh(year: u64) -> Book
+        ensures { result ≡ freshBook year }
     {
         Book {
+            year,
             hours: 0,
             months: 0,
             ended: false,

@@ -6,11 +6,14 @@ ghost use Rattle.settlement.specs.Events.{event_rows, is_out_of_turn};
 use crate::{Book, Event, spoiled};
 use numbers::{OWNERS, Refusal};
 
-// The rows that every event has, 1 to 4.
+// The rows that every event has, 15 and 1 to 4.
 #[tactic(auto, unfolding(crate::specs::Events::event_rows, numbers::specs::Refusals::first_refusal))]
 pub(crate) fn of_event(book: &Book, event: Event, places: usize) -> Result<(), Refusal>
     ensures { result ≡ answered (first_refusal (event_rows event book.now places)) 0 tt }
 {
+    if calendar::is_outside(book.year) {
+        return Err(Refusal::NoSuchYear);
+    }
     if spoiled::is_spoiled(book) {
         return Err(Refusal::SpoiledBook);
     }
@@ -31,9 +34,9 @@ pub(crate) fn of_event(book: &Book, event: Event, places: usize) -> Result<(), R
 pub(crate) fn is_out_of_turn(book: &Book, event: Event) -> bool
     ensures { result ≡ is_out_of_turn event book.now }
 {
-    let closing = calendar::is_month_end(book.hours, book.months);
+    let closing = calendar::is_month_end(book.year, book.hours, book.months);
     match event {
-        Event::Hour => closing | (calendar::HOURS_IN_YEAR <= book.hours),
+        Event::Hour => closing | (calendar::hours_in_year(book.year) <= book.hours),
         Event::MonthEnd => !closing,
         Event::YearEnd => book.months < calendar::MONTHS_IN_YEAR,
     }

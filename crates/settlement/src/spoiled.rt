@@ -12,7 +12,7 @@ const MOST_SURPLUS: u64 = crate::MOST_COLLECTED + numbers::MOST_CENTS;
 pub(crate) fn is_spoiled(book: &Book) -> bool
     ensures { result ≡ is_spoiled book.now }
 {
-    if is_out_of_step(book.hours, book.months, book.ended) {
+    if is_out_of_step(book.year, book.hours, book.months, book.ended) {
         return true;
     }
     if cells::is_carry_full(&book.monthshort, &book.yearshort) {
@@ -25,40 +25,40 @@ pub(crate) fn is_spoiled(book: &Book) -> bool
     )
 }
 
-// Whether the hours settled, the months closed and the mark are none that can stand together.
+// Whether the hours settled, the months closed and the mark are none that can stand together in a year.
 #[tactic(auto, unfolding(crate::specs::Book::out_of_step))]
-fn is_out_of_step(hours: u64, months: u64, ended: bool) -> bool
-    ensures { result ≡ out_of_step hours months ended }
+fn is_out_of_step(year: u64, hours: u64, months: u64, ended: bool) -> bool
+    ensures { result ≡ out_of_step year hours months ended }
 {
-    if hours > calendar::HOURS_IN_YEAR {
+    if hours > calendar::hours_in_year(year) {
         return true;
     }
     if months > calendar::MONTHS_IN_YEAR {
         return true;
     }
-    if is_off_month(hours, months) {
+    if is_off_month(year, hours, months) {
         return true;
     }
-    if (months == calendar::MONTHS_IN_YEAR) & (hours != calendar::HOURS_IN_YEAR) {
+    if (months == calendar::MONTHS_IN_YEAR) & (hours != calendar::hours_in_year(year)) {
         return true;
     }
     ended & (months < calendar::MONTHS_IN_YEAR)
 }
 
 // Whether the hours stand outside the month that is open.
-fn is_off_month(hours: u64, months: u64) -> bool
-    ensures { result ≡ off_month hours months }
+fn is_off_month(year: u64, hours: u64, months: u64) -> bool
+    ensures { result ≡ off_month year hours months }
 {
     (months < calendar::MONTHS_IN_YEAR)
-        & !((last_end(months) <= hours) & (hours <= calendar::month_end(months)))
+        & !((last_end(year, months) <= hours) & (hours <= calendar::month_end(year, months)))
 }
 
 // The hours at the end of the last closed month; 0 if none is closed, as the definition has it, since the months begin at hour 0.
-fn last_end(months: u64) -> u64
-    ensures { result ≡ last_end months }
+fn last_end(year: u64, months: u64) -> u64
+    ensures { result ≡ last_end year months }
 {
     if months == 0 {
         return 0;
     }
-    calendar::month_end(months - 1)
+    calendar::month_end(year, months - 1)
 }

@@ -87,11 +87,11 @@ number_is year_end_call book = refl
 -- the answer of a call on a book ends as the event's part does
 module _ (call : Call) (book after : Book) (lent cents : List ℤ) where
   by_number : (number : ℕ) (outcome : Result Funding Refusal) → (result_of outcome after).refusal ≡ number
-      → (result_of outcome after).faulty ≡ record_of call number → (result_of outcome after).book ≡ answer_by number (book_after call book) book
+      → (result_of outcome after).faulty ≡ record_of call book.year number → (result_of outcome after).book ≡ answer_by number (book_after call book) book
       → cents ≡ answer_by number (lines call book) lent
       → SameEnd (answered_part (event_of call) book outcome after cents)
       (answer_by number (goes_on (asked_of call ∷ []) (event_lines (tag_of call) (number_of call book) (lines call book)) (book_after call book))
-      (stops (asked_of call ∷ []) number (tag_of call) (number_of call book) (record_of call number) book))
+      (stops (asked_of call ∷ []) number (tag_of call) (number_of call book) (record_of call book.year number) book))
   by_number zero (Ok funding) is names gives writes =
       record {
         printed = λ i. event_lines (tag_is call i) (number_is call book i) (writes i);
@@ -108,7 +108,7 @@ module _ (call : Call) (book after : Book) (lent cents : List ℤ) where
   event_ends outcome answered all =
       let places = ap (refusal call book) all in
       by_number (refusal call book owners) outcome (gives_number answered ∙ places)
-      (gives_record answered ∙ ap (record_of call) places)
+      (gives_record answered ∙ ap (record_of call book.year) places)
       (gives_book_lem answered ∙ ap (λ (n : ℕ). answer_by n (book_after call book) book) places)
       (answered.writes ∙ ap (λ (n : ℕ). answer_by n (lines call book) lent) places)
 

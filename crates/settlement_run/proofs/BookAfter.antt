@@ -5,18 +5,18 @@ use mathlib.Core.Path.{◌≡◌, sym, subst}
 use mathlib.Core.Bool.{Bool, true, false, cond}
 use mathlib.Core.List.{List, []}
 use lib.ListN.{length}
-use Rattle.numbers.specs.Limits.{owners, nodes}
+use Rattle.numbers.specs.Limits.{owners}
 use Rattle.settlement.specs.declared.Book.{Book}
 use Rattle.settlement.specs.Events.{Call, hour_call, month_end_call, year_end_call, event_of, is_due, refusal, book_after}
-use Rattle.hour_block.specs.Block.{amount_in, prices_in, decode_refusal}
+use Rattle.hour_block.specs.Block.{amount_in, prices_in}
 use Rattle.settlement_run.specs.declared.Run.{Run}
-use Rattle.settlement_run.specs.Run.{Part, goes_on, and_then, event_part, if_due, hour_part, step_part}
+use Rattle.settlement_run.specs.Run.{Part, block_refusal, goes_on, and_then, event_part, if_due, hour_part, step_part}
 use Rattle.settlement_run.specs.Calls.{step_room, lacks_room, standing, stepped, stepped_run}
 use Rattle.settlement_run.proofs.Parts.{by_refusal, by_first}
 
 module _ (P : Book → Type 0)
     (accepts : (call : Call) (book : Book) → refusal call book owners ≡ 0 → P book → P (book_after call book)) where
-  then_keeps : (part : Part) (next : Book → Part) → P part.book → ((book : Book) → P book → P (next book).book)
+  pub then_keeps : (part : Part) (next : Book → Part) → P part.book → ((book : Book) → P book → P (next book).book)
       → P (and_then part next).book
   then_keeps part next holds keeps = by_first part next (λ (p : Part). P p.book) (λ _. keeps part.book holds) (λ _. holds)
 
@@ -37,7 +37,7 @@ module _ (P : Book → Type 0)
     hour_keeps : (book : Book) → P book → P (hour_part file block book).book
     unfolding hour_part
     hour_keeps book holds =
-        by_refusal (λ (p : Part). P p.book) (decode_refusal (length block) nodes) _ _
+        by_refusal (λ (p : Part). P p.book) (block_refusal book.year (length block)) _ _
         (λ _. event_keeps (hour_call file (prices_in block) (amount_in block)) book holds) (λ _. holds)
 
     pub part_keeps : (book : Book) → P book → P (step_part file block book).book

@@ -1,20 +1,21 @@
 -- A run over more blocks than a year has hours has stopped: it counts a block for an hour, and the year has no more.
 -- Assumes nothing.
 use Prim.Native.Nat.{ℕ, zero, suc, ◌<◌}
-use mathlib.Core.Path.{◌≡◌, refl, sym, ap, ◌∙◌}
+use mathlib.Core.Path.{◌≡◌, refl, sym, ap, subst, ◌∙◌}
 use mathlib.Core.Bool.{Bool, true, false, cond}
 use mathlib.Core.List.{List, []}
 use native.Mathlib.Numerals.{add-one}
 use native.Mathlib.Omega.{arith}
 use lib.ListN.{length}
-use Rattle.numbers.specs.Limits.{owners, nodes}
+use Rattle.numbers.specs.Limits.{owners}
 use Rattle.calendar.specs.Year.{hours_in_year}
 use Rattle.settlement.specs.declared.Book.{Book}
 use Rattle.settlement.specs.Events.{Call, hour_call, month_end_call, year_end_call, event_of, is_due, refusal, book_after}
 use Rattle.settlement.proofs.Accepted.{hour_accepted}
-use Rattle.settlement.proofs.HoursAfter.{fresh_hours, hour_hours, month_hours, year_hours}
-use Rattle.hour_block.specs.Block.{amount_in, prices_in, decode_refusal}
-use Rattle.settlement_run.specs.Run.{Part, goes_on, and_then, event_part, if_due, hour_part, step_part, opening, block_at, run_to}
+use Rattle.settlement.proofs.HoursAfter.{fresh_hours, fresh_year, keeps_year, hour_hours, month_hours, year_hours}
+use Rattle.hour_block.specs.Block.{amount_in, prices_in}
+use Rattle.settlement_run.specs.Run.{Part, block_refusal, program_year, goes_on, and_then, event_part, if_due, hour_part, step_part, opening, block_at, run_to}
+use Rattle.settlement_run.proofs.BookAfter.{then_keeps, part_keeps}
 use Rattle.settlement_run.proofs.Parts.{by_refusal, then_goes, then_went, run_none, run_next}
 
 -- the book of a part that goes on and of what follows
@@ -48,14 +49,14 @@ module _ (file block : List ℕ) (book : Book) where
   call = hour_call file (prices_in block) (amount_in block)
 
   hour_goes : (hour_part file block book).refusal ≡ 0
-      → (book.hours < hours_in_year) × ((hour_part file block book).book.hours ≡ suc book.hours)
+      → (book.hours < hours_in_year book.year) × ((hour_part file block book).book.hours ≡ suc book.hours)
   unfolding hour_part
   hour_goes =
-      by_refusal (λ (p : Part). p.refusal ≡ 0 → (book.hours < hours_in_year) × (p.book.hours ≡ suc book.hours))
-      (decode_refusal (length block) nodes) _ _ settled (λ broken goes. absurd (broken goes))
+      by_refusal (λ (p : Part). p.refusal ≡ 0 → (book.hours < hours_in_year book.year) × (p.book.hours ≡ suc book.hours))
+      (block_refusal book.year (length block)) _ _ settled (λ broken goes. absurd (broken goes))
     where
-      settled : decode_refusal (length block) nodes ≡ 0 → (event_part call book).refusal ≡ 0
-          → (book.hours < hours_in_year) × ((event_part call book).book.hours ≡ suc book.hours)
+      settled : block_refusal book.year (length block) ≡ 0 → (event_part call book).refusal ≡ 0
+          → (book.hours < hours_in_year book.year) × ((event_part call book).book.hours ≡ suc book.hours)
       settled whole goes =
           let shown = event_accepted call book goes in (
             (hour_accepted file (prices_in block) (amount_in block) book owners shown.0).in_year,
@@ -65,7 +66,7 @@ module _ (file block : List ℕ) (book : Book) where
           )
 
   step_goes : (step_part file block book).refusal ≡ 0
-      → (book.hours < hours_in_year) × ((step_part file block book).book.hours ≡ suc book.hours)
+      → (book.hours < hours_in_year book.year) × ((step_part file block book).book.hours ≡ suc book.hours)
   unfolding step_part
   step_goes goes =
       let hour = hour_part file block book in
@@ -93,10 +94,24 @@ module _ (readable : Bool) (file input : List ℕ) where
   further n goes =
       then_went (up_to n) (step_part file (block_at input n)) (sym (ap (λ (p : Part). p.refusal) (run_next readable file input n)) ∙ goes)
 
+  -- its book keeps the program's year
+  year_is : (n : ℕ) → (up_to n).book.year ≡ program_year
+  unfolding opening
+  year_is zero = ap (λ (p : Part). p.book.year) (run_none readable file input) ∙ fresh_year program_year
+  year_is (suc n) =
+      ap (λ (p : Part). p.book.year) (run_next readable file input n)
+      ∙ then_keeps is_its same_year (up_to n) (step_part file (block_at input n)) (year_is n) (part_keeps is_its same_year file (block_at input n))
+    where
+      is_its : Book → Type 0
+      is_its book = book.year ≡ program_year
+
+      same_year : (call : Call) (book : Book) → refusal call book owners ≡ 0 → book.year ≡ program_year → (book_after call book).year ≡ program_year
+      same_year call book _ is = keeps_year call book ∙ is
+
   -- its hours are its blocks
   pub hours_are : (n : ℕ) → (run_to readable file input n).refusal ≡ 0 → (run_to readable file input n).book.hours ≡ n
   unfolding opening
-  hours_are zero goes = ap (λ (p : Part). p.book.hours) (run_none readable file input) ∙ fresh_hours
+  hours_are zero goes = ap (λ (p : Part). p.book.hours) (run_none readable file input) ∙ fresh_hours program_year
   hours_are (suc n) goes =
       let went = further n goes in
       ap (λ (p : Part). p.book.hours) (run_next readable file input n)
@@ -104,8 +119,9 @@ module _ (readable : Bool) (file input : List ℕ) where
       ∙ (step_goes file (block_at input n) (up_to n).book went.1).1
       ∙ ap suc (hours_are n went.0)
 
-  pub enough_blocks : (n : ℕ) → hours_in_year < n → (run_to readable file input n).refusal ≡ 0 → ⊥
+  pub enough_blocks : (n : ℕ) → hours_in_year program_year < n → (run_to readable file input n).refusal ≡ 0 → ⊥
   enough_blocks zero many goes = omega arith
   enough_blocks (suc n) many goes =
       let went = further n goes in
-      omega (arith, (step_goes file (block_at input n) (up_to n).book went.1).0, hours_are n went.0)
+      let inside = subst (λ (year : ℕ). (up_to n).book.hours < hours_in_year year) (year_is n) (step_goes file (block_at input n) (up_to n).book went.1).0 in
+      omega (arith, inside, hours_are n went.0)

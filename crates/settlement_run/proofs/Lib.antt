@@ -1,5 +1,6 @@
 pub mod Appending
 pub mod Begun
+pub mod Blocks
 pub mod BookAfter
 pub mod EnoughBlocks
 pub mod Parts

@@ -1,7 +1,7 @@
 -- Demand 3 holds of the lines that every run prints, for every rights file and every input.
 -- Assumes nothing.
 use Prim.Native.Nat.{ℕ, ◌<◌}
-use mathlib.Core.Path.{◌≡◌, sym, ap, subst, ◌∙◌}
+use mathlib.Core.Path.{◌≡◌, refl, sym, ap, subst, ◌∙◌}
 use mathlib.Core.Bool.{Bool, true, false}
 use mathlib.Core.Logic.{◌⊎◌}
 use mathlib.Core.List.{List}
@@ -17,7 +17,7 @@ use Rattle.settlement.proofs.ClaimHolds.{claim, kept_all}
 use Rattle.settlement.proofs.OneLedger.{is_ledger}
 use Rattle.settlement.proofs.RunLaws.{over_all}
 use Rattle.statement_text.specs.Text.{Line}
-use Rattle.settlement_run.specs.Run.{Part, block_count, whole_run, all_lines}
+use Rattle.settlement_run.specs.Run.{Part, program_year, block_count, whole_run, all_lines}
 use Rattle.settlement_run.specs.PrintedClaim.{credit_in, charge_in, sum_lines, of_owners, collected_in, targets_in, CreditsPrinted, PrintedClaim}
 use Rattle.settlement_run.proofs.PrintedCredits.{credits_printed_lem}
 use Rattle.settlement_run.proofs.PrintedSums.{all_credits_lem, all_charges, all_fund_lem}
@@ -25,18 +25,18 @@ use Rattle.settlement_run.proofs.RunLedger.{Made, made_run}
 
 module _ (file input : List ℕ) (blocks : ℕ) (run : Part) (made : Made file input blocks run) where
   abbrev ledger : List Entry
-  ledger = ledger_of run.calls
+  ledger = ledger_of program_year run.calls
 
-  answered : IsLedger ledger
-  answered = is_ledger run.calls
+  answered : IsLedger program_year ledger
+  answered = is_ledger program_year run.calls
 
-  whole : Claim ledger
-  whole = claim run.calls
+  whole : Claim program_year ledger
+  whole = claim program_year refl run.calls
 
   hours_are : run.book.hours ≡ sum_over hour_count ledger
-  hours_are = sym (ap (λ (book : Book). book.hours) made.reached) ∙ (kept_all ledger answered).hours
+  hours_are = sym (ap (λ (book : Book). book.hours) made.reached) ∙ (kept_all program_year refl ledger answered).hours
 
-  fund_is_lem : fund_left (book_at ledger) ≡ fund_left run.book
+  fund_is_lem : fund_left (book_at program_year ledger) ≡ fund_left run.book
   fund_is_lem = ap fund_left made.reached
 
   -- what all owners' lines come to
@@ -57,10 +57,10 @@ module _ (file input : List ℕ) (blocks : ℕ) (run : Part) (made : Made file i
   collected_is : collected_in input run.book.hours ≡ sum_over collection ledger
   collected_is = ap (collected_in input) hours_are ∙ sym made.collected
 
-  targets_are : (owner : ℕ) → targets_in file input owner run.book.hours ≡ sum_over (positive_target owner) ledger
+  targets_are : (owner : ℕ) → targets_in file input owner run.book.hours ≡ sum_over (positive_target program_year owner) ledger
   targets_are owner = ap (targets_in file input owner) hours_are ∙ sym (made.targeted owner)
 
-  short_is : (owner : ℕ) → open_shortfall (book_at ledger) owner ≡ open_shortfall run.book owner
+  short_is : (owner : ℕ) → open_shortfall (book_at program_year ledger) owner ≡ open_shortfall run.book owner
   short_is owner = ap (λ (book : Book). open_shortfall book owner) made.reached
 
   year_closes_lem : run.book.ended ≡ true
@@ -68,7 +68,7 @@ module _ (file input : List ℕ) (blocks : ℕ) (run : Part) (made : Made file i
   year_closes_lem ended =
       subst (λ (book : Book). (fund_left book ≡ 0) ⊎ ((owner : ℕ) → owner < owners → is_short book owner ≡ false)) made.reached
       (whole.year_closes
-      ((kept_all ledger answered).ended_after (ap (λ (book : Book). book.ended) made.reached ∙ ended)))
+      ((kept_all program_year refl ledger answered).ended_after (ap (λ (book : Book). book.ended) made.reached ∙ ended)))
 
   made_claim : PrintedClaim file input run
   made_claim =

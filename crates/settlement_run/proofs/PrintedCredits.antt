@@ -14,7 +14,7 @@ use Rattle.settlement.specs.Ledger.{Entry, book_at, IsLedger, hour_count, month_
 use Rattle.settlement.proofs.EntryParts.{Parts, over_next, accepted_parts}
 use Rattle.settlement.proofs.RunLaws.{written_long, credit_line, year_open}
 use Rattle.statement_text.specs.Text.{Line}
-use Rattle.settlement_run.specs.Run.{tag_of}
+use Rattle.settlement_run.specs.Run.{program_year, tag_of}
 use Rattle.settlement_run.specs.PrintedClaim.{event_credit_in, sum_lines, number_in, ledger_lines, CreditsPrinted}
 use Rattle.settlement_run.proofs.Parts.{by_refusal}
 use Rattle.settlement_run.proofs.PrintedLines.{sum_none, sum_append, own_credits, other_credits}
@@ -52,27 +52,27 @@ number_counts month_end_call past none = refl
 number_counts year_end_call past none = sym none
 
 count_next : (past : List Entry) (call : Call) (lent : List ℤ) (result : Settled) (written : List ℤ)
-    → Parts past (record { call = call; lent = lent; result = result; written = written })
+    → Parts program_year past (record { call = call; lent = lent; result = result; written = written })
     → count_of call (record { call = call; lent = lent; result = result; written = written } ∷ past) ≡ 1 + count_of call past
 count_next past (hour_call file prices collected) lent result written parts =
     omega (arith, over_next hour_count (record { call = hour_call file prices collected; lent = lent; result = result; written = written }) past, parts.hour)
 count_next past month_end_call lent result written parts =
     omega (arith, over_next month_end_count (record { call = month_end_call; lent = lent; result = result; written = written }) past, parts.month)
 count_next past year_end_call lent result written parts =
-    omega (arith, over_next year_end_count (record { call = year_end_call; lent = lent; result = result; written = written }) past, parts.year)
+    omega (arith, over_next year_end_count (record { call = year_end_call; lent = lent; result = result; written = written }) past, parts.year_end)
 
 -- ---- the lines of one entry
 
-module _ (past : List Entry) (entry : Entry) (ledger : IsLedger past)
-    (answered : Answered entry.call (book_at past) entry.lent entry.result entry.written) where
+module _ (past : List Entry) (entry : Entry) (ledger : IsLedger program_year past)
+    (answered : Answered entry.call (book_at program_year past) entry.lent entry.result entry.written) where
   -- an event of a number that was counted before, or is yet to be counted, is not this entry's
   module _ (accepted : entry.result.refusal ≡ 0) where
     number_is : number_in entry.call past ≡ count_of entry.call past
-    number_is = number_counts entry.call past (year_open past entry answered accepted ledger)
+    number_is = number_counts entry.call past (year_open program_year past entry answered accepted refl ledger)
 
     one_more : count_of entry.call (entry ∷ past) ≡ 1 + count_of entry.call past
     one_more =
-        count_next past entry.call entry.lent entry.result entry.written (accepted_parts past entry answered accepted)
+        count_next past entry.call entry.lent entry.result entry.written (accepted_parts program_year past entry answered accepted)
 
     apart : (call : Call) (n : ℕ) → (count_of call past ≤ n → n < count_of call (entry ∷ past) → ⊥)
         → (eqb (tag_of entry.call) (tag_of call) && eqb (number_in entry.call past) n) ≡ false
@@ -95,7 +95,7 @@ module _ (past : List Entry) (entry : Entry) (ledger : IsLedger past)
         (lines_of past entry) []
         (λ accepted.
         other_credits (tag_of entry.call) (number_in entry.call past) owner entry.written
-        (omega (arith, inside, written_long past entry answered accepted)) (tag_of call) n (apart accepted call n outside))
+        (omega (arith, inside, written_long program_year past entry answered accepted)) (tag_of call) n (apart accepted call n outside))
         (λ _. sum_none (event_credit_in (tag_of call) n owner))
 
     its_own : entry.result.refusal ≡ 0
@@ -104,13 +104,13 @@ module _ (past : List Entry) (entry : Entry) (ledger : IsLedger past)
     its_own accepted =
         sum_of_accepted (event_credit_in (tag_of entry.call) (number_in entry.call past) owner) past entry accepted
         ∙ own_credits (tag_of entry.call) (number_in entry.call past) owner entry.written
-        (omega (arith, inside, written_long past entry answered accepted))
-        ∙ sym (credit_line past entry answered accepted owner inside)
+        (omega (arith, inside, written_long program_year past entry answered accepted))
+        ∙ sym (credit_line program_year past entry answered accepted owner inside)
 
 -- ---- the lines before an entry, and those after it
 
 -- a number that is yet to be counted is in no line
-none_before : (call : Call) (n owner : ℕ) → owner < owners → (ledger : List Entry) → IsLedger ledger → count_of call ledger ≤ n
+none_before : (call : Call) (n owner : ℕ) → owner < owners → (ledger : List Entry) → IsLedger program_year ledger → count_of call ledger ≤ n
     → sum_lines (event_credit_in (tag_of call) n owner) (ledger_lines ledger) ≡ 0
 none_before call n owner inside [] answered most = sum_of_start (event_credit_in (tag_of call) n owner)
 none_before call n owner inside (entry ∷ past) answered most =
@@ -122,13 +122,13 @@ abbrev AreLater : List Entry → List Line → Type 0
 AreLater ledger lines =
     (call : Call) (n owner : ℕ) → owner < owners → n < count_of call ledger → sum_lines (event_credit_in (tag_of call) n owner) lines ≡ 0
 
-later_next : (past : List Entry) (entry : Entry) (more : List Line) → IsLedger (entry ∷ past) → AreLater (entry ∷ past) more
+later_next : (past : List Entry) (entry : Entry) (more : List Line) → IsLedger program_year (entry ∷ past) → AreLater (entry ∷ past) more
     → AreLater past (entry_lines past entry ++ more)
 later_next past entry more answered later call n owner inside low =
     omega
     (arith, sum_append (event_credit_in (tag_of call) n owner) (entry_lines past entry) more, none_here past entry answered.1 answered.0 owner inside call n (λ above _. omega arith), later call n owner inside (omega (arith, count_grows call entry past)))
 
-credits_before : (ledger : List Entry) → IsLedger ledger → (more : List Line) → AreLater ledger more → CreditsPrinted (ledger_lines ledger ++ more) ledger
+credits_before : (ledger : List Entry) → IsLedger program_year ledger → (more : List Line) → AreLater ledger more → CreditsPrinted (ledger_lines ledger ++ more) ledger
 unfolding ledger_lines
 credits_before [] answered more later = tt
 credits_before (entry ∷ past) answered more later =
@@ -147,7 +147,7 @@ credits_before (entry ∷ past) answered more later =
         omega
         (arith, sum_append part (ledger_lines past ++ entry_lines past entry) more, sum_append part (ledger_lines past) (entry_lines past entry), none_before entry.call (number_in entry.call past) owner inside past answered.1 (omega arith), its_own past entry answered.1 answered.0 owner inside accepted, later entry.call (number_in entry.call past) owner inside (omega arith))
 
-pub credits_printed_lem : (ledger : List Entry) → IsLedger ledger → CreditsPrinted (ledger_lines ledger) ledger
+pub credits_printed_lem : (ledger : List Entry) → IsLedger program_year ledger → CreditsPrinted (ledger_lines ledger) ledger
 credits_printed_lem ledger answered =
     subst (λ (printed : List Line). CreditsPrinted printed ledger) (append-nil (ledger_lines ledger))
     (credits_before ledger answered [] (λ call n owner inside low. sum_none (event_credit_in (tag_of call) n owner)))

@@ -14,7 +14,7 @@ use Rattle.settlement.specs.Ledger.{Entry, book_at, IsLedger, sum_over, credit, 
 use Rattle.settlement.proofs.EntryParts.{over_next, refused_nothing}
 use Rattle.settlement.proofs.RunLaws.{over_none, written_long, credit_line, charge_line}
 use Rattle.statement_text.specs.Text.{Line, event_lines}
-use Rattle.settlement_run.specs.Run.{Part, tag_of, last_line, all_lines}
+use Rattle.settlement_run.specs.Run.{Part, program_year, tag_of, last_line, all_lines}
 use Rattle.settlement_run.specs.PrintedClaim.{credit_in, charge_in, fund_in, sum_lines, number_in, ledger_lines}
 use Rattle.settlement_run.proofs.Parts.{by_refusal}
 use Rattle.settlement_run.proofs.PrintedLines.{sum_none, sum_append, sum_one, credits_of_event, charges_of_event, no_fund_of_event}
@@ -45,10 +45,10 @@ sum_of_start part = sum_none part
 -- a part that the lines of each accepted entry have as the entry has it
 module _ (part : Line → ℕ) (term : List Entry → Entry → ℕ)
     (of_accepted : (past : List Entry) (entry : Entry)
-    → Answered entry.call (book_at past) entry.lent entry.result entry.written
+    → Answered entry.call (book_at program_year past) entry.lent entry.result entry.written
     → entry.result.refusal ≡ 0 → sum_lines part (lines_of past entry) ≡ term past entry)
     (of_refused : (past : List Entry) (entry : Entry) → (entry.result.refusal ≡ 0 → ⊥) → term past entry ≡ 0) where
-  sum_ledger : (ledger : List Entry) → IsLedger ledger → sum_lines part (ledger_lines ledger) ≡ sum_over term ledger
+  sum_ledger : (ledger : List Entry) → IsLedger program_year ledger → sum_lines part (ledger_lines ledger) ≡ sum_over term ledger
   sum_ledger [] answered = sum_of_start part ∙ sym (over_none term)
   sum_ledger (entry ∷ past) answered =
       omega (arith, sum_of_next part past entry, over_next term entry past, sum_ledger past answered.1, here)
@@ -59,25 +59,25 @@ module _ (part : Line → ℕ) (term : List Entry → Entry → ℕ)
           (of_accepted past entry answered.0) (λ refused. sum_none part ∙ sym (of_refused past entry refused))
 
 module _ (owner : ℕ) (inside : owner < owners) where
-  pub credits_of_ledger : (ledger : List Entry) → IsLedger ledger → sum_lines (credit_in owner) (ledger_lines ledger) ≡ sum_over (credit owner) ledger
+  pub credits_of_ledger : (ledger : List Entry) → IsLedger program_year ledger → sum_lines (credit_in owner) (ledger_lines ledger) ≡ sum_over (credit owner) ledger
   credits_of_ledger =
       sum_ledger (credit_in owner) (credit owner)
       (λ past entry answered accepted.
       credits_of_event (tag_of entry.call) (number_in entry.call past) owner entry.written
-      (omega (arith, inside, written_long past entry answered accepted))
-      ∙ sym (credit_line past entry answered accepted owner inside))
-      (λ past entry refused. (refused_nothing past entry refused).credits owner)
+      (omega (arith, inside, written_long program_year past entry answered accepted))
+      ∙ sym (credit_line program_year past entry answered accepted owner inside))
+      (λ past entry refused. (refused_nothing program_year past entry refused).credits owner)
 
-  pub charges_of_ledger : (ledger : List Entry) → IsLedger ledger → sum_lines (charge_in owner) (ledger_lines ledger) ≡ sum_over (charge owner) ledger
+  pub charges_of_ledger : (ledger : List Entry) → IsLedger program_year ledger → sum_lines (charge_in owner) (ledger_lines ledger) ≡ sum_over (charge owner) ledger
   charges_of_ledger =
       sum_ledger (charge_in owner) (charge owner)
       (λ past entry answered accepted.
       charges_of_event (tag_of entry.call) (number_in entry.call past) owner entry.written
-      (omega (arith, inside, written_long past entry answered accepted))
-      ∙ sym (charge_line past entry answered accepted owner inside))
-      (λ past entry refused. (refused_nothing past entry refused).charges owner)
+      (omega (arith, inside, written_long program_year past entry answered accepted))
+      ∙ sym (charge_line program_year past entry answered accepted owner inside))
+      (λ past entry refused. (refused_nothing program_year past entry refused).charges owner)
 
-pub no_fund_of_ledger : (ledger : List Entry) → IsLedger ledger → sum_lines fund_in (ledger_lines ledger) ≡ 0
+pub no_fund_of_ledger : (ledger : List Entry) → IsLedger program_year ledger → sum_lines fund_in (ledger_lines ledger) ≡ 0
 no_fund_of_ledger ledger answered =
     sum_ledger fund_in (λ _ _. 0)
     (λ past entry answered accepted. no_fund_of_event (tag_of entry.call) (number_in entry.call past) entry.written)
@@ -105,7 +105,7 @@ unfolding fund_in last_line
 last_fund refusal book on = ap (λ (r : ℕ). fund_in (last_line r book)) on
 
 -- all lines of a run that prints the lines of a ledger
-module _ (run : Part) (ledger : List Entry) (answered : IsLedger ledger) (prints : run.printed ≡ ledger_lines ledger) where
+module _ (run : Part) (ledger : List Entry) (answered : IsLedger program_year ledger) (prints : run.printed ≡ ledger_lines ledger) where
   all_lines_lem : (part : Line → ℕ)
       → sum_lines part (all_lines run) ≡ sum_lines part (ledger_lines ledger) + part (last_line run.refusal run.book)
   all_lines_lem part =

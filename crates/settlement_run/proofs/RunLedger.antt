@@ -6,7 +6,7 @@ use mathlib.Core.Bool.{Bool, true, false, cond}
 use mathlib.Core.List.{List, [], ◌∷◌, ◌++◌, append_assoc, append-nil}
 use native.Mathlib.Omega.{arith}
 use lib.ListN.{length}
-use Rattle.numbers.specs.Limits.{owners, nodes}
+use Rattle.numbers.specs.Limits.{owners}
 use Rattle.numbers.specs.Lists.{total, list_below}
 use Rattle.numbers.specs.Refusals.{answer_by}
 use Rattle.numbers.specs.Signs.{positive}
@@ -21,9 +21,9 @@ use Rattle.settlement.proofs.EntryParts.{Parts, over_next, refused_nothing, acce
 use Rattle.settlement.proofs.ClaimHolds.{kept_all}
 use Rattle.settlement.proofs.OneLedger.{book_at_start, book_at_entry, ledger_none, ledger_next, is_ledger}
 use Rattle.settlement.proofs.RunLaws.{over_none}
-use Rattle.hour_block.specs.Block.{amount_in, prices_in, decode_refusal}
+use Rattle.hour_block.specs.Block.{amount_in, prices_in}
 use Rattle.statement_text.specs.Text.{Line, event_lines}
-use Rattle.settlement_run.specs.Run.{Part, goes_on, stops, behind, and_then, tag_of, number_of, asked_of, event_part, if_due, hour_part, step_part, opening_refusal, opening, block_at, run_to}
+use Rattle.settlement_run.specs.Run.{Part, block_refusal, program_year, goes_on, stops, behind, and_then, tag_of, number_of, asked_of, event_part, if_due, hour_part, step_part, opening_refusal, opening, block_at, run_to}
 use Rattle.settlement_run.specs.PrintedClaim.{collected_in, targets_in, number_in, ledger_lines}
 use Rattle.settlement_run.proofs.Parts.{by_refusal, by_first, then_goes, then_stops}
 
@@ -54,18 +54,18 @@ behind_then first part next =
 
 -- after so many blocks, each an accepted hour unless the run has stopped
 pub record Made (file input : List ℕ) (blocks : ℕ) (part : Part) : Type 0 where
-  pub reached : book_at (ledger_of part.calls) ≡ part.book
-  pub prints : part.printed ≡ ledger_lines (ledger_of part.calls)
-  pub collected : sum_over collection (ledger_of part.calls) ≡ collected_in input (sum_over hour_count (ledger_of part.calls))
+  pub reached : book_at program_year (ledger_of program_year part.calls) ≡ part.book
+  pub prints : part.printed ≡ ledger_lines (ledger_of program_year part.calls)
+  pub collected : sum_over collection (ledger_of program_year part.calls) ≡ collected_in input (sum_over hour_count (ledger_of program_year part.calls))
   pub targeted : (owner : ℕ)
-      → sum_over (positive_target owner) (ledger_of part.calls) ≡ targets_in file input owner (sum_over hour_count (ledger_of part.calls))
-  pub counted : part.refusal ≡ 0 → sum_over hour_count (ledger_of part.calls) ≡ blocks
+      → sum_over (positive_target program_year owner) (ledger_of program_year part.calls) ≡ targets_in file input owner (sum_over hour_count (ledger_of program_year part.calls))
+  pub counted : part.refusal ≡ 0 → sum_over hour_count (ledger_of program_year part.calls) ≡ blocks
 
 -- an hour's call is that of its block
 pub record IsOf (file input : List ℕ) (call : Call) (block : ℕ) : Type 0 where
   pub amount : call_amount call ≡ at_hour call (positive (amount_in (block_at input block)))
   pub positives : (owner : ℕ)
-      → call_positive call block owner ≡ at_hour call (positive (target file (prices_in (block_at input block)) block owner))
+      → call_positive call program_year block owner ≡ at_hour call (positive (target program_year file (prices_in (block_at input block)) block owner))
 
 -- one hour more in a sum over the hours, or none
 sum_at_hour : (call : Call) (f : ℕ → ℕ) (n : ℕ) → total (list_below f (at_hour call 1 + n)) ≡ at_hour call (f n) + total (list_below f n)
@@ -97,9 +97,9 @@ module _ (part : List Entry → Entry → ℕ) (f : ℕ → ℕ) (past : List En
       sums ∙ sym (sum_at_hour entry.call f (sum_over hour_count past)) ∙ ap (λ (m : ℕ). total (list_below f m)) next
 
 -- the numbers that the lines have are the book's
-number_is : (call : Call) (calls : List Asked) → number_of call (book_at (ledger_of calls)) ≡ number_in call (ledger_of calls)
-number_is (hour_call file prices collected) calls = (kept_all (ledger_of calls) (is_ledger calls)).hours
-number_is month_end_call calls = (kept_all (ledger_of calls) (is_ledger calls)).months
+number_is : (call : Call) (calls : List Asked) → number_of call (book_at program_year (ledger_of program_year calls)) ≡ number_in call (ledger_of program_year calls)
+number_is (hour_call file prices collected) calls = (kept_all program_year refl (ledger_of program_year calls) (is_ledger program_year calls)).hours
+number_is month_end_call calls = (kept_all program_year refl (ledger_of program_year calls) (is_ledger program_year calls)).months
 number_is year_end_call calls = refl
 
 -- ---- an event
@@ -107,17 +107,17 @@ number_is year_end_call calls = refl
 module _ (file input : List ℕ) (blocks : ℕ) (run : Part) (before : Made file input blocks run) (on : run.refusal ≡ 0) where
   module _ (call : Call) (of : IsOf file input call blocks) where
     abbrev past : List Entry
-    past = ledger_of run.calls
+    past = ledger_of program_year run.calls
 
     abbrev book : Book
-    book = book_at past
+    book = book_at program_year past
 
     -- the entry of the call, and the ledger with it
     abbrev entry : Entry
     entry = entry_on book (asked_of call)
 
-    next : entry ∷ past ≡ ledger_of (asked_of call ∷ run.calls)
-    next = sym (ledger_next (asked_of call) run.calls)
+    next : entry ∷ past ≡ ledger_of program_year (asked_of call ∷ run.calls)
+    next = sym (ledger_next program_year (asked_of call) run.calls)
 
     of_next : IsOf file input call (sum_over hour_count past)
     of_next = subst (IsOf file input call) (sym (before.counted on)) of
@@ -126,19 +126,19 @@ module _ (file input : List ℕ) (blocks : ℕ) (run : Part) (before : Made file
     made_next : (lines : List Line) (number tag event faulty : ℕ) (after : Book) → entry.result.book ≡ after
         → lines ≡ answer_by entry.result.refusal (event_lines (tag_of call) (number_in call past) entry.written) []
         → sum_over collection (entry ∷ past) ≡ collected_in input (sum_over hour_count (entry ∷ past))
-        → ((owner : ℕ) → sum_over (positive_target owner) (entry ∷ past) ≡ targets_in file input owner (sum_over hour_count (entry ∷ past)))
+        → ((owner : ℕ) → sum_over (positive_target program_year owner) (entry ∷ past) ≡ targets_in file input owner (sum_over hour_count (entry ∷ past)))
         → (number ≡ 0 → sum_over hour_count (entry ∷ past) ≡ at_hour call 1 + blocks)
         → Made file input (at_hour call 1 + blocks)
         (behind run (record { calls = asked_of call ∷ []; printed = lines; refusal = number; tag = tag; number = event; faulty = faulty; book = after }))
     unfolding ledger_lines
     made_next lines number tag event faulty after gives printed collected targeted counted =
         record {
-          reached = ap book_at (sym next) ∙ book_at_entry entry past ∙ gives;
+          reached = ap (book_at program_year) (sym next) ∙ book_at_entry program_year entry past ∙ gives;
           prints = ap₂ (λ (a b : List Line). a ++ b) before.prints printed ∙ ap ledger_lines next;
           collected = subst (λ (l : List Entry). sum_over collection l ≡ collected_in input (sum_over hour_count l)) next collected;
           targeted =
               λ owner.
-              subst (λ (l : List Entry). sum_over (positive_target owner) l ≡ targets_in file input owner (sum_over hour_count l)) next (targeted owner);
+              subst (λ (l : List Entry). sum_over (positive_target program_year owner) l ≡ targets_in file input owner (sum_over hour_count l)) next (targeted owner);
           counted = λ e. ap (sum_over hour_count) (sym next) ∙ counted e;
         }
 
@@ -153,24 +153,24 @@ module _ (file input : List ℕ) (blocks : ℕ) (run : Part) (before : Made file
         (sum_accepted collection (λ hour. positive (amount_in (block_at input hour))) past entry before.collected
         (parts.collected ∙ of_next.amount) parts.hour)
         (λ owner.
-        sum_accepted (positive_target owner) (λ hour. positive (target file (prices_in (block_at input hour)) hour owner)) past entry
+        sum_accepted (positive_target program_year owner) (λ hour. positive (target program_year file (prices_in (block_at input hour)) hour owner)) past entry
         (before.targeted owner) (parts.target owner ∙ of_next.positives owner) parts.hour)
         (λ _. omega (arith, before.counted on, over_next hour_count entry past, parts.hour))
       where
-        parts : Parts past entry
-        parts = accepted_parts past entry (record { gives = refl; writes = refl }) accepted
+        parts : Parts program_year past entry
+        parts = accepted_parts program_year past entry (record { gives = refl; writes = refl }) accepted
 
     event_refused : (refusal call book owners ≡ 0 → ⊥)
         → Made file input (at_hour call 1 + blocks)
-        (behind run (stops (asked_of call ∷ []) (refusal call book owners) (tag_of call) (number_of call book) (record_of call (refusal call book owners)) book))
+        (behind run (stops (asked_of call ∷ []) (refusal call book owners) (tag_of call) (number_of call book) (record_of call book.year (refusal call book owners)) book))
     event_refused refused =
-        let none = refused_nothing past entry refused in
-        made_next [] (refusal call book owners) (tag_of call) (number_of call book) (record_of call (refusal call book owners)) book
+        let none = refused_nothing program_year past entry refused in
+        made_next [] (refusal call book owners) (tag_of call) (number_of call book) (record_of call book.year (refusal call book owners)) book
         (answer_refused (refusal call book owners) _ _ refused)
         (sym (answer_refused entry.result.refusal _ [] refused))
         (sum_refused collection (λ hour. positive (amount_in (block_at input hour))) past entry before.collected none.collected none.hour)
         (λ owner.
-        sum_refused (positive_target owner) (λ hour. positive (target file (prices_in (block_at input hour)) hour owner)) past entry
+        sum_refused (positive_target program_year owner) (λ hour. positive (target program_year file (prices_in (block_at input hour)) hour owner)) past entry
         (before.targeted owner) (none.target owner) none.hour)
         (λ e. absurd (refused e))
 
@@ -211,7 +211,7 @@ module _ (file input : List ℕ) (blocks : ℕ) (run : Part) (before : Made file
   made_hour : Made file input (suc blocks) (behind run (hour_part file (block_at input blocks) run.book))
   unfolding hour_part
   made_hour =
-      by_refusal (λ (part : Part). Made file input (suc blocks) (behind run part)) (decode_refusal (length (block_at input blocks)) nodes) _ _
+      by_refusal (λ (part : Part). Made file input (suc blocks) (behind run part)) (block_refusal run.book.year (length (block_at input blocks))) _ _
       (λ _. subst (λ (n : ℕ). Made file input n (behind run (event_part call run.book))) next (made_event call (record { amount = refl; positives = λ owner. refl })))
       (λ broken. made_still (suc blocks) _ 72 run.book.hours (λ e. absurd (broken e)))
     where
@@ -263,21 +263,21 @@ module _ (file input : List ℕ) where
           (record { amount = refl; positives = λ owner. refl }) refl)
 
   -- nothing was called yet
-  made_none : (refusal : ℕ) → Made file input 0 (stops [] refusal 0 0 0 fresh)
+  made_none : (refusal : ℕ) → Made file input 0 (stops [] refusal 0 0 0 (fresh program_year))
   unfolding ledger_lines total list_below
   made_none refusal =
       record {
-        reached = ap book_at ledger_none ∙ book_at_start;
-        prints = ap ledger_lines (sym ledger_none);
+        reached = ap (book_at program_year) (ledger_none program_year) ∙ book_at_start program_year;
+        prints = ap ledger_lines (sym (ledger_none program_year));
         collected = no_sum collection (λ hour. positive (amount_in (block_at input hour)));
-        targeted = λ owner. no_sum (positive_target owner) (λ hour. positive (target file (prices_in (block_at input hour)) hour owner));
-        counted = λ _. ap (sum_over hour_count) ledger_none ∙ over_none hour_count;
+        targeted = λ owner. no_sum (positive_target program_year owner) (λ hour. positive (target program_year file (prices_in (block_at input hour)) hour owner));
+        counted = λ _. ap (sum_over hour_count) (ledger_none program_year) ∙ over_none hour_count;
       }
     where
-      no_sum : (part : List Entry → Entry → ℕ) (f : ℕ → ℕ) → sum_over part (ledger_of []) ≡ total (list_below f (sum_over hour_count (ledger_of [])))
+      no_sum : (part : List Entry → Entry → ℕ) (f : ℕ → ℕ) → sum_over part (ledger_of program_year []) ≡ total (list_below f (sum_over hour_count (ledger_of program_year [])))
       no_sum part f =
-          ap (sum_over part) ledger_none ∙ over_none part
-          ∙ sym (ap (λ (l : List Entry). total (list_below f (sum_over hour_count l))) ledger_none ∙ ap (λ (n : ℕ). total (list_below f n)) (over_none hour_count))
+          ap (sum_over part) (ledger_none program_year) ∙ over_none part
+          ∙ sym (ap (λ (l : List Entry). total (list_below f (sum_over hour_count l))) (ledger_none program_year) ∙ ap (λ (n : ℕ). total (list_below f n)) (over_none hour_count))
 
   pub made_run : (readable : Bool) (n : ℕ) → Made file input n (run_to readable file input n)
   unfolding run_to opening

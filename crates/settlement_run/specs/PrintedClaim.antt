@@ -12,7 +12,7 @@ use Rattle.settlement.specs.Ledger.{Entry, book_at, ledger_of, sum_over, hour_co
 use Rattle.settlement.specs.Claim.{Claim}
 use Rattle.hour_block.specs.Block.{amount_in, prices_in}
 use Rattle.statement_text.specs.Text.{Line, owner_line, fund_line, refusal_line, event_lines}
-use Rattle.settlement_run.specs.Run.{Part, tag_of, block_at, all_lines}
+use Rattle.settlement_run.specs.Run.{Part, program_year, tag_of, block_at, all_lines}
 
 -- ---- what is read from the printed lines
 
@@ -56,10 +56,10 @@ of_owners part = total (list_below part owners)
 abbrev pub collected_in : List ℕ → ℕ → ℕ
 collected_in input hours = total (list_below (λ hour. positive (amount_in (block_at input hour))) hours)
 
--- an owner's positive targets
+-- an owner's positive targets, in the program's year
 abbrev pub targets_in : List ℕ → List ℕ → ℕ → ℕ → ℕ
 targets_in file input owner hours =
-    total (list_below (λ hour. positive (target file (prices_in (block_at input hour)) hour owner)) hours)
+    total (list_below (λ hour. positive (target program_year file (prices_in (block_at input hour)) hour owner)) hours)
 
 -- ---- the ledger of the calls that a run makes, and the lines of its accepted calls
 
@@ -87,11 +87,11 @@ CreditsPrinted printed (entry ∷ past) =
 
 pub record PrintedClaim (file input : List ℕ) (run : Part) : Type 0 where
   -- the calls of the run are "the whole list of hours, month ends and year ends" from a fresh book, and the whole claim holds of them
-  pub claim : Claim (ledger_of run.calls)
-  pub reached : book_at (ledger_of run.calls) ≡ run.book
+  pub claim : Claim program_year (ledger_of program_year run.calls)
+  pub reached : book_at program_year (ledger_of program_year run.calls) ≡ run.book
   -- what is printed is the lines of its accepted calls
-  pub prints : run.printed ≡ ledger_lines (ledger_of run.calls)
-  pub credits_printed : CreditsPrinted run.printed (ledger_of run.calls)
+  pub prints : run.printed ≡ ledger_lines (ledger_of program_year run.calls)
+  pub credits_printed : CreditsPrinted run.printed (ledger_of program_year run.calls)
   -- "collected plus charges equals credits plus the fund left"
   pub closes : collected_in input run.book.hours + of_owners (λ owner. sum_lines (charge_in owner) (all_lines run))
       ≡ of_owners (λ owner. sum_lines (credit_in owner) (all_lines run)) + fund_left run.book

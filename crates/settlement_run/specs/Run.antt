@@ -1,15 +1,16 @@
 -- What a run of the program prints, for the bytes of any rights file and any input: block by block from a fresh book.
 -- Assumes nothing.
-use Rattle.std.specs.Prelude.{ℕ, zero, suc, ◌+◌, ◌-◌, ◌*◌, ◌/◌, Bool, cond, not, List, [], ◌∷◌, ◌++◌, ltb, length, take, drop, replicate, pos}
+use Rattle.std.specs.Prelude.{ℕ, zero, suc, ◌+◌, ◌-◌, ◌*◌, ◌/◌, Bool, cond, not, List, [], ◌∷◌, ◌++◌, ltb, eqb, length, take, drop, replicate, pos}
 use Prim.Native.Char.{code}
-use Rattle.numbers.specs.Limits.{owners, nodes}
+use Rattle.numbers.specs.Limits.{owners}
 use Rattle.numbers.specs.Refusals.{first_refusal, ◌if◌, answer_by}
+use Rattle.calendar.specs.Almanac.{is_outside}
 use Rattle.rights.specs.Layout.{most_bytes}
 use Rattle.settlement.specs.declared.Book.{Book}
 use Rattle.settlement.specs.Book.{fresh}
 use Rattle.settlement.specs.Events.{Call, hour_call, month_end_call, year_end_call, event_of, is_due, refusal, record_of, lines, book_after}
 use Rattle.settlement.specs.Ledger.{Asked}
-use Rattle.hour_block.specs.Block.{hour_bytes, amount_in, prices_in, decode_refusal}
+use Rattle.hour_block.specs.Block.{hour_bytes, amount_in, prices_in}
 use Rattle.statement_text.specs.Sentence.{sentence}
 use Rattle.statement_text.specs.Text.{Line, fund_line, refusal_line, text_of, event_lines}
 
@@ -61,6 +62,10 @@ behind first then =
 unfoldable pub and_then : Part → (Book → Part) → Part
 and_then part next = answer_by part.refusal (behind part (next part.book)) part
 
+-- "The program keeps 2025" (Wish 7)
+abbrev pub program_year : ℕ
+program_year = 2025
+
 -- ---- an event
 
 -- "an `H`, `M` or `Y`"
@@ -84,7 +89,7 @@ unfoldable pub event_part : Call → Book → Part
 event_part call book =
     answer_by (refusal call book owners)
     (goes_on (asked_of call ∷ []) (event_lines (tag_of call) (number_of call book) (lines call book)) (book_after call book))
-    (stops (asked_of call ∷ []) (refusal call book owners) (tag_of call) (number_of call book) (record_of call (refusal call book owners)) book)
+    (stops (asked_of call ∷ []) (refusal call book owners) (tag_of call) (number_of call book) (record_of call book.year (refusal call book owners)) book)
 
 -- "It closes months and the year when due."
 unfoldable pub if_due : Call → Book → Part
@@ -92,11 +97,15 @@ if_due call book = cond (is_due (event_of call) book) (event_part call book) (go
 
 -- ---- a block of the input
 
--- the next hour, from its "4,104 bytes"; a block of another length, "a broken last hour", stops the run "with number 4"
+-- what a block of so many bytes calls for on a book of this year: 15 "before any other check" (Wish 7); "a broken last hour, with number 4"
+unfoldable pub block_refusal : ℕ → ℕ → ℕ
+block_refusal year bytes = first_refusal ((15 if is_outside year) ∷ (4 if not (eqb bytes hour_bytes)) ∷ [])
+
+-- the next hour, from its "4,104 bytes"; such a refusal stops the run
 unfoldable pub hour_part : List ℕ → List ℕ → Book → Part
 hour_part file block book =
-    answer_by (decode_refusal (length block) nodes) (event_part (hour_call file (prices_in block) (amount_in block)) book)
-    (stops [] (decode_refusal (length block) nodes) (code "H") book.hours 0 book)
+    answer_by (block_refusal book.year (length block)) (event_part (hour_call file (prices_in block) (amount_in block)) book)
+    (stops [] (block_refusal book.year (length block)) (code "H") book.hours 0 book)
 
 -- the hour; the month end where one is due; the year end where one is due
 unfoldable pub step_part : List ℕ → List ℕ → Book → Part
@@ -110,7 +119,7 @@ unfoldable pub opening_refusal : Bool → ℕ → ℕ
 opening_refusal readable bytes = first_refusal ((4 if not readable) ∷ (4 if ltb most_bytes bytes) ∷ [])
 
 unfoldable pub opening : Bool → ℕ → Part
-opening readable bytes = stops [] (opening_refusal readable bytes) 0 0 0 fresh
+opening readable bytes = stops [] (opening_refusal readable bytes) 0 0 0 (fresh program_year)
 
 -- "hours from standard input: 4,104 bytes each": the block of a number, from 0, and how many there are; the last may be broken
 abbrev pub block_at : List ℕ → ℕ → List ℕ

@@ -17,6 +17,9 @@ pub(crate) fn settle_hour(run: Run, rights: &[u8], block: &[u8], text: &mut [u8]
     requires { run.end + event_room owners ≤ length text.old }
     ensures { Appended (hour_part rights.now block.now run.book) run text.old result text.new }
 {
+    if calendar::is_outside(run.book.year) {
+        return stopped(run, Event::Hour, Refusal::NoSuchYear);
+    }
     let mut prices = [0i32; NODES];
     match hour_block::decode(block, &mut prices) {
         Ok(amount) => {

@@ -16,6 +16,9 @@ use statement_text::{LINE_ROOM, has_room};
 
 mod events;
 
+// The year that the program settles, by the one in which its June stands.
+pub const PROGRAM_YEAR: u64 = 2025;
+
 // The room that a step asks for behind the end of the text: an hour's lines, a month end's and a year end's.
 pub const STEP_ROOM: usize = 3 * statement_text::EVENT_ROOM;
 
@@ -37,7 +40,7 @@ pub struct Run {
 
 // The run before the first block, over a rights file of so many bytes, if it can be read. All fields by hand, as in the run of a host's book, which
 // takes any refusal number: a function for both is no plainer.
-#[tactic(auto, unfolding(crate::specs::Run::opening))]
+#[tactic(auto, using(crate::proofs::Begun::program_book), unfolding(crate::specs::Run::opening))]
 pub fn opening(file: Option<usize>) -> Run
     ensures { result ≡ begun_over file }
 {
@@ -48,7 +51,7 @@ pub fn opening(file: Option<usize>) -> Run
         tag: 0,
         number: 0,
         faulty: 0,
-        book: Book::fresh(),
+        book: Book::open(PROGRAM_YEAR).book,
     }
 }
 

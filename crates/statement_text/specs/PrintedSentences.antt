@@ -21,10 +21,14 @@ pub rights_file_refused : sentence 0 0 4 0 ≡ codes "Rights file is refused: 4,
 unfolding sentence record_phrase refusal_phrase event_phrase word_of digits digits_within
 rights_file_refused = refl
 
--- 12 to 15 are not given yet
+-- 12 to 14 are not given yet
 pub not_in_the_table : sentence 72 0 12 0 ≡ codes "Hour 0 is refused: 12, not in the table.\n"
 unfolding sentence record_phrase refusal_phrase event_phrase word_of digits digits_within
 not_in_the_table = refl
+
+pub no_such_year : sentence 72 0 15 0 ≡ codes "Hour 0 is refused: 15, no such year.\n"
+unfolding sentence record_phrase refusal_phrase event_phrase word_of digits digits_within
+no_such_year = refl
 
 pub not_refused : sentence 72 17 0 3 ≡ []
 unfolding sentence

@@ -28,7 +28,7 @@ words =
     ∷ no_word
     ∷ no_word
     ∷ no_word
-    ∷ no_word
+    ∷ "no such year"
     ∷ "too many wants"
     ∷ "total too large"
     ∷ []

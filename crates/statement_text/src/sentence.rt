@@ -30,7 +30,7 @@ const WORDS: [&str; 18] = [
     NO_WORD,
     NO_WORD,
     NO_WORD,
-    NO_WORD,
+    "no such year",
     "too many wants",
     "total too large",
 ];

@@ -10,6 +10,7 @@ use Rattle.std.specs.Prelude.{Ok, Err}
 use Rattle.numbers.specs.declared.refusal.Refusal.{Refusal}
 use Rattle.numbers.specs.Refusals.{answered}
 use Rattle.numbers.proofs.Refusals.{answered_err, refused_with}
+use Rattle.calendar.specs.Almanac.{is_outside, days_in_year}
 use Rattle.rights.specs.declared.Right.{Right}
 use Rattle.rights.specs.Layout.{record_count, right_at, is_good, is_wrong_length, read_refusal}
 use Rattle.rights.proofs.Readings.{answered_good, answered_bad}
@@ -20,23 +21,23 @@ pub answered_refusal : {A B : Type 0} (number faulty : ℕ) (value : A) (other :
 answered_refusal number faulty value other refusal is =
     let told = answered_err number faulty value is in (λ none. omega arith, ap Err told.1 ∙ sym (refused_with number faulty other told.0))
 
-module _ (file : List ℕ) (number : ℕ) (long : is_wrong_length (length file) ≡ false) (inside : number < record_count file) where
+module _ (year : ℕ) (file : List ℕ) (number : ℕ) (within : is_outside year ≡ false) (long : is_wrong_length (length file) ≡ false) (inside : number < record_count file) where
   -- it gives the file's right, which is good
-  pub read_right : (right : Right) → answered (read_refusal file number) number (right_at file number) ≡ Ok right
-      → (right ≡ right_at file number) × (is_good right ≡ true)
-  read_right right is = by_test (is_good (right_at file number)) refl
+  pub read_right : (right : Right) → answered (read_refusal year file number) number (right_at file number) ≡ Ok right
+      → (right ≡ right_at file number) × (is_good (days_in_year year) right ≡ true)
+  read_right right is = by_test (is_good (days_in_year year) (right_at file number)) refl
     where
-      by_test : (good : Bool) → is_good (right_at file number) ≡ good → (right ≡ right_at file number) × (is_good right ≡ true)
+      by_test : (good : Bool) → is_good (days_in_year year) (right_at file number) ≡ good → (right ≡ right_at file number) × (is_good (days_in_year year) right ≡ true)
       by_test true good =
-          let same : right ≡ right_at file number = cc (answered_good file number long inside good) in
-          (same, ap is_good same ∙ good)
-      by_test false bad = cc (answered_bad file number long inside bad)
+          let same : right ≡ right_at file number = cc (answered_good year file number within long inside good) in
+          (same, ap (is_good (days_in_year year)) same ∙ good)
+      by_test false bad = cc (answered_bad year file number within long inside bad)
 
   -- it is refused, and the file's right is not good
-  pub read_refused : (refusal : Refusal) → answered (read_refusal file number) number (right_at file number) ≡ Err refusal
-      → is_good (right_at file number) ≡ false
-  read_refused refusal is = by_test (is_good (right_at file number)) refl
+  pub read_refused : (refusal : Refusal) → answered (read_refusal year file number) number (right_at file number) ≡ Err refusal
+      → is_good (days_in_year year) (right_at file number) ≡ false
+  read_refused refusal is = by_test (is_good (days_in_year year) (right_at file number)) refl
     where
-      by_test : (good : Bool) → is_good (right_at file number) ≡ good → is_good (right_at file number) ≡ false
-      by_test true good = cc (answered_good file number long inside good)
+      by_test : (good : Bool) → is_good (days_in_year year) (right_at file number) ≡ good → is_good (days_in_year year) (right_at file number) ≡ false
+      by_test true good = cc (answered_good year file number within long inside good)
       by_test false bad = bad

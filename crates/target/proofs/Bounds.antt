@@ -1,25 +1,21 @@
--- The numbers that a target call and a row call are refused by: 3 to 8.
+-- The numbers that a target call and a row call are refused by: each is a refusal's, and 15 for a year outside the calendar's.
 -- Assumes nothing.
-use Prim.Native.Nat.{ℕ, ◌≤◌}
-use mathlib.Core.Path.{◌≡◌, refl}
+use Prim.Native.Nat.{ℕ}
+use mathlib.Core.Path.{◌≡◌}
 use mathlib.Core.Bool.{Bool, true}
-use mathlib.Core.List.{List, ◌++◌}
-use native.Mathlib.Omega.{arith}
+use mathlib.Core.List.{List}
 use lib.ListN.{length}
 use lib.IntN.{ℤ}
-use Rattle.numbers.proofs.Refusals.{is_within, refusal_most, within_append, within_wider}
-use Rattle.rights.specs.Faults.{fault_rows}
-use Rattle.rights.proofs.Faults.{rows_within}
+use Rattle.numbers.proofs.Refusals.{refusal_here, IsNumber, is_number}
+use Rattle.calendar.specs.Almanac.{is_outside}
+use Rattle.rights.proofs.Faults.{rows_numbers}
 use Rattle.target.specs.Target.{early_rows, lent_rows, call_refusal}
 
-early_within : (file : List ℕ) (prices : List ℤ) (hour : ℕ) (wrong : Bool) → is_within 3 5 (early_rows file prices hour wrong) ≡ true
-unfolding early_rows lent_rows
-early_within file prices hour wrong = refl
+pub call_number : (year : ℕ) (file : List ℕ) (prices : List ℤ) (hour : ℕ) (wrong : Bool) → IsNumber (call_refusal year file prices hour wrong)
+unfolding call_refusal early_rows lent_rows
+call_number year file prices hour wrong = is_number _ (rows_numbers year (length prices) file)
 
-pub call_most : (file : List ℕ) (prices : List ℤ) (hour : ℕ) (wrong : Bool) → call_refusal file prices hour wrong ≤ 8
-unfolding call_refusal
-call_most file prices hour wrong =
-    refusal_most 3 8 (early_rows file prices hour wrong ++ fault_rows (length prices) file)
-    (within_append 3 8 (early_rows file prices hour wrong) (fault_rows (length prices) file)
-    (within_wider 3 5 3 8 (early_rows file prices hour wrong) (omega arith) (omega arith) (early_within file prices hour wrong))
-    (within_wider 7 8 3 8 (fault_rows (length prices) file) (omega arith) (omega arith) (rows_within (length prices) file)))
+pub call_no_year : (year : ℕ) (file : List ℕ) (prices : List ℤ) (hour : ℕ) (wrong : Bool) → is_outside year ≡ true
+    → call_refusal year file prices hour wrong ≡ 15
+unfolding call_refusal early_rows
+call_no_year year file prices hour wrong outside = refusal_here 15 _ outside

@@ -1,4 +1,4 @@
--- A right's cents: how many they can be, with good rights and no wild price; and its row, by whether it is live.
+-- A right's cents: how many they can be, with a good size and no wild price; and its row, by whether it is live.
 -- Assumes nothing.
 use Prim.Native.Nat.{ℕ, ◌+◌, ◌*◌, ◌/◌, ◌≤◌, zero-le}
 use mathlib.Core.Path.{◌≡◌, refl}
@@ -15,7 +15,7 @@ use Rattle.numbers.proofs.Signed.{abs_sub, abs_mul}
 use Rattle.numbers.proofs.Booleans.{neither_true}
 use Rattle.calendar.specs.declared.OperatingHour.{OperatingHour}
 use Rattle.rights.specs.declared.Right.{Right}
-use Rattle.rights.specs.Layout.{most_size, is_good, is_live}
+use Rattle.rights.specs.Layout.{most_size, good_size, is_live}
 use Rattle.rights.proofs.Good.{good_size_lem}
 use Rattle.target.specs.Target.{most_price, price_at, is_wild, wild_at, any_wild, spread, not_negative, counted, tenths, live_cents, row_cents}
 use Rattle.target.proofs.Rounding.{rounded_most}
@@ -53,21 +53,21 @@ module _ (prices : List ℤ) (no_wild : any_wild prices ≡ false) where
       omega
       (arith, counted_most (eqb right.kind 1) (spread prices right), abs_sub (price_at prices right.sink) (price_at prices right.source), price_most right.sink, price_most right.source)
 
-  pub tenths_most : (right : Right) → is_good right ≡ true → nat_abs (tenths prices right) ≤ most_size * (most_price + most_price)
-  tenths_most right good =
+  pub tenths_most : (right : Right) → good_size right ≡ true → nat_abs (tenths prices right) ≤ most_size * (most_price + most_price)
+  tenths_most right sized =
       le_trans (le_of_eq (abs_mul (pos right.size) (counted right.kind (spread prices right))))
-      (mul-le-mul (good_size_lem right good) (gain_most right))
+      (mul-le-mul (good_size_lem right sized) (gain_most right))
 
-  live_most : (right : Right) → is_good right ≡ true → nat_abs (live_cents prices right) ≤ most_cents
+  live_most : (right : Right) → good_size right ≡ true → nat_abs (live_cents prices right) ≤ most_cents
   unfolding live_cents
-  live_most right good = omega (arith, rounded_most (tenths prices right), tenths_most right good)
+  live_most right sized = omega (arith, rounded_most (tenths prices right), tenths_most right sized)
 
-  pub row_most : (hour : OperatingHour) (right : Right) → is_good right ≡ true → nat_abs (row_cents prices hour right) ≤ most_cents
+  pub row_most : (hour : OperatingHour) (right : Right) → good_size right ≡ true → nat_abs (row_cents prices hour right) ≤ most_cents
   unfolding row_cents
-  row_most hour right good = by_test (is_live hour right)
+  row_most hour right sized = by_test (is_live hour right)
     where
       by_test : (live : Bool) → nat_abs (cond live (live_cents prices right) (pos 0)) ≤ most_cents
-      by_test true = live_most right good
+      by_test true = live_most right sized
       by_test false = zero-le
 
 -- a right's row, by whether it is live

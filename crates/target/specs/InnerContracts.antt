@@ -9,9 +9,9 @@ use Rattle.rights.specs.Faults.{file_refusal}
 use Rattle.target.specs.Target.{row_at, own_sum}
 
 -- what one pass over the rights gives: each owner's sum of its rows, or none where some record has a fault
-abbrev pub added : List ℕ → List ℤ → OperatingHour → Option (List ℤ)
-added file prices hour =
-    answer_by (file_refusal (length prices) file) (Some (list_below (λ owner. own_sum file owner (row_at file prices hour)) owners)) None
+abbrev pub added : ℕ → List ℕ → List ℤ → OperatingHour → Option (List ℤ)
+added year file prices hour =
+    answer_by (file_refusal year (length prices) file) (Some (list_below (λ owner. own_sum file owner (row_at file prices hour)) owners)) None
 
 -- half a cent in tenths, with the sign of a number
 abbrev pub half_cent : ℤ → ℤ

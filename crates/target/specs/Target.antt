@@ -7,6 +7,7 @@ use Rattle.numbers.specs.Lists.{any_below, list_below, sum_below}
 use Rattle.numbers.specs.declared.refusal.Refusal.{Refusal}
 use Rattle.numbers.specs.Refusals.{Row, ◌if◌, first_refusal, answer_by, answered}
 use Rattle.calendar.specs.declared.OperatingHour.{OperatingHour}
+use Rattle.calendar.specs.Almanac.{is_outside}
 use Rattle.calendar.specs.Year.{hours_in_year, operating_hour}
 use Rattle.rights.specs.declared.Right.{Right}
 use Rattle.rights.specs.Layout.{record_count, right_at, is_live, is_wrong_length}
@@ -63,12 +64,12 @@ own_sum file owner row = sum_below (own_row file owner row) (record_count file)
 
 -- "an owner's target is the sum of these cents. This replaces the one rounding per owner": Wish 2 prevails over the scope's "S / 10
 -- rounded to a whole cent, halves away from zero, once per owner"
-unfoldable pub target : List ℕ → List ℤ → ℕ → ℕ → ℤ
-target file prices hour owner = own_sum file owner (row_at file prices (operating_hour hour))
+unfoldable pub target : ℕ → List ℕ → List ℤ → ℕ → ℕ → ℤ
+target year file prices hour owner = own_sum file owner (row_at file prices (operating_hour year hour))
 
 -- "all 64 targets"
-unfoldable pub targets : List ℕ → List ℤ → ℕ → List ℤ
-targets file prices hour = list_below (target file prices hour) owners
+unfoldable pub targets : ℕ → List ℕ → List ℤ → ℕ → List ℤ
+targets year file prices hour = list_below (target year file prices hour) owners
 
 -- 5: "any price outside its range"
 abbrev pub wild_at : List ℤ → ℕ → Bool
@@ -91,25 +92,26 @@ unfoldable pub lent_rows : List ℕ → List ℤ → List Row
 lent_rows file prices =
     (4 if is_wrong_price_count (length prices)) ∷ (4 if is_wrong_length (length file)) ∷ (5 if any_wild prices) ∷ []
 
--- the rows before the records of a call that is lent rights, prices, an hour number and lines: 3, "an hour number above 8,759"; 4, a wrong
--- number of lines; 4 and 5 of what else is lent
-unfoldable pub early_rows : List ℕ → List ℤ → ℕ → Bool → List Row
-early_rows file prices hour wrong_lines = (3 if leb hours_in_year hour) ∷ (4 if wrong_lines) ∷ lent_rows file prices
+-- the rows before the records of a call that is given a year and an hour number, and lent rights, prices and lines: 15, "before any other
+-- check"; 3, "an hour number above 8,759", by the year; 4, a wrong number of lines; 4 and 5 of what else is lent
+unfoldable pub early_rows : ℕ → List ℕ → List ℤ → ℕ → Bool → List Row
+early_rows year file prices hour wrong_lines =
+    (15 if is_outside year) ∷ (3 if leb (hours_in_year year) hour) ∷ (4 if wrong_lines) ∷ lent_rows file prices
 
 -- its refusals, over the whole input: these rows, then 7 and 8, "in any record"
-unfoldable pub call_refusal : List ℕ → List ℤ → ℕ → Bool → ℕ
-call_refusal file prices hour wrong_lines =
-    first_refusal (early_rows file prices hour wrong_lines ++ fault_rows (length prices) file)
+unfoldable pub call_refusal : ℕ → List ℕ → List ℤ → ℕ → Bool → ℕ
+call_refusal year file prices hour wrong_lines =
+    first_refusal (early_rows year file prices hour wrong_lines ++ fault_rows year (length prices) file)
 
 -- those of a target call, whose lines are 64
-abbrev pub target_refusal : List ℕ → List ℤ → ℕ → ℕ → ℕ
-target_refusal file prices hour lines = call_refusal file prices hour (is_wrong_lines lines)
+abbrev pub target_refusal : ℕ → List ℕ → List ℤ → ℕ → ℕ → ℕ
+target_refusal year file prices hour lines = call_refusal year file prices hour (is_wrong_lines lines)
 
 -- what a call that is lent rights and prices answers by its refusal: "In 7 and 8 the record number becomes the lowest one with that fault"
-abbrev pub call_answer : List ℕ → List ℤ → ℕ → Result (Unit {0}) Refusal
-call_answer file prices refusal = answered refusal (faulty_record (length prices) file refusal) tt
+abbrev pub call_answer : ℕ → List ℕ → List ℤ → ℕ → Result (Unit {0}) Refusal
+call_answer year file prices refusal = answered refusal (faulty_record year (length prices) file refusal) tt
 
 -- the lines after a target call
-unfoldable pub target_lines : List ℕ → List ℤ → ℕ → List ℤ → List ℤ
-target_lines file prices hour before =
-    answer_by (target_refusal file prices hour (length before)) (targets file prices hour) before
+unfoldable pub target_lines : ℕ → List ℕ → List ℤ → ℕ → List ℤ → List ℤ
+target_lines year file prices hour before =
+    answer_by (target_refusal year file prices hour (length before)) (targets year file prices hour) before

@@ -4,6 +4,7 @@
 
 ghost use Rattle.std.specs.Prelude.{◌≡◌, false, true, length};
 ghost use Rattle.numbers.specs.Refusals.{answered, first_refusal};
+ghost use Rattle.calendar.specs.Almanac.{is_outside};
 ghost use Rattle.calendar.specs.Year.{operating_hour};
 ghost use Rattle.rights.specs.Layout.{is_wrong_length};
 ghost use Rattle.target.specs.Rounding.{round_tenths};
@@ -31,29 +32,37 @@ pub fn round_tenths(tenths: i64) -> i64
 }
 
 // The target call: all 64 targets of an hour, or a refusal that leaves the lines as they were.
-pub fn targets(rights: &[u8], prices: &[i32], hour: u64, lines: &mut [i64]) -> Result<(), Refusal>
-    ensures value { result ≡ call_answer rights.now prices.now (target_refusal rights.now prices.now hour (length lines.old)) }
-    ensures lines_after { lines.new ≡ target_lines rights.now prices.now hour lines.old }
+pub fn targets(
+    year: u64,
+    rights: &[u8],
+    prices: &[i32],
+    hour: u64,
+    lines: &mut [i64],
+) -> Result<(), Refusal>
+    ensures value { result ≡ call_answer year rights.now prices.now (target_refusal year rights.now prices.now hour (length lines.old)) }
+    ensures lines_after { lines.new ≡ target_lines year rights.now prices.now hour lines.old }
 {
-    let hour = looked_at(rights, prices, hour, lines.len() != OWNERS)?;
-    let Some(sums) = add_rights(rights, prices, hour) else {
-        return rights::file_fault(rights, prices.len());
+    let hour = looked_at(year, rights, prices, hour, lines.len() != OWNERS)?;
+    let Some(sums) = add_rights(year, rights, prices, hour) else {
+        return rights::file_fault(year, rights, prices.len());
     };
     lines.copy_from_slice(&sums);
     Ok(())
 }
 
-// The hour, or what the hour, the lengths and the prices call for: 3, 4 or 5. `wrong` is whether the lines are not as many as the call writes, the
-// one test that the two calls differ in. Rights, prices and hour are what the calls are given: a struct made for each call is no plainer.
+// The hour, or what the year, the hour, the lengths and the prices call for: 15, 3, 4 or 5. `wrong` is whether the lines are not as many as the
+// call writes, the one test that the two calls differ in. Year, rights, prices and hour are what the calls are given: a struct made for each call
+// is no plainer.
 fn looked_at(
+    year: u64,
     rights: &[u8],
     prices: &[i32],
     hour: u64,
     wrong: bool,
 ) -> Result<OperatingHour, Refusal>
-    ensures { result ≡ answered (first_refusal (early_rows rights.now prices.now hour wrong)) 0 (operating_hour hour) }
+    ensures { result ≡ answered (first_refusal (early_rows year rights.now prices.now hour wrong)) 0 (operating_hour year hour) }
 {
-    let hour = calendar::operating_hour(hour)?;
+    let hour = calendar::operating_hour(year, hour)?;
     if wrong | wrong_price_count(prices.len()) | rights::wrong_length(rights.len()) {
         return Err(Refusal::WrongLength);
     }
@@ -70,12 +79,17 @@ fn wrong_price_count(prices: usize) -> bool
 }
 
 // Each owner's sum of its records' rows, made in one pass. It stops at a record that is bad or unpriced, and then gives none.
-fn add_rights(rights: &[u8], prices: &[i32], hour: OperatingHour) -> Option<[i64; OWNERS]>
-    requires { (is_wrong_length (length rights.now) ≡ false) × (any_wild prices.now ≡ false) }
-    ensures { result ≡ added rights.now prices.now hour }
+fn add_rights(
+    year: u64,
+    rights: &[u8],
+    prices: &[i32],
+    hour: OperatingHour,
+) -> Option<[i64; OWNERS]>
+    requires { (is_outside year ≡ false) × (is_wrong_length (length rights.now) ≡ false) × (any_wild prices.now ≡ false) }
+    ensures { result ≡ added year rights.now prices.now hour }
 {
     let mut sums = [0i64; OWNERS];
-    for given in Reader::new(rights) {
+    for given in Reader::new(year, rights) {
         let Ok(right) = given else {
             return None;
         };

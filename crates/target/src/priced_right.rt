@@ -1,6 +1,6 @@
 // A right beside the prices of an hour: its row, and what its owner's sum comes to with it.
 ghost use Rattle.std.specs.Prelude.{◌≡◌, false, true, ◌+◌, ◌*◌, ◌^◌, ◌≤◌, ◌<◌, get_or, length, set, nat_abs, pos, ◌+ℤ◌};
-ghost use Rattle.rights.specs.Layout.{is_good, most_size};
+ghost use Rattle.rights.specs.Layout.{good_owner, good_size, most_size};
 ghost use Rattle.rights.specs.Faults.{is_unpriced};
 ghost use Rattle.target.specs.Rounding.{round_tenths};
 ghost use Rattle.target.specs.InnerContracts.{half_cent};
@@ -10,12 +10,14 @@ use calendar::OperatingHour;
 use numbers::OWNERS;
 use rights::{Kind, Right};
 
-// A good right whose two nodes are among the prices, none of which is wild.
+// A right with a good owner and a good size, whose two nodes are among the prices, none of which is wild. Its days are looked at before, by the
+// year.
 #[derive(Clone, Copy)]
 pub(crate) struct PricedRight<'a> {
     pub(crate) right: Right,
     pub(crate) prices: &'a [i32],
-    ghost good: { is_good right ≡ true },
+    ghost owned: { good_owner right ≡ true },
+    ghost sized: { good_size right ≡ true },
     ghost priced: { is_unpriced (length prices.now) right ≡ false },
     ghost tame: { any_wild prices.now ≡ false },
 }

@@ -12,25 +12,31 @@ use numbers::Refusal;
 
 // The row call: each record's cents in an hour, or a refusal that leaves the lines as they were. The whole file is looked at before the
 // first row is written.
-pub fn rows(rights: &[u8], prices: &[i32], hour: u64, lines: &mut [i64]) -> Result<(), Refusal>
-    ensures value { result ≡ call_answer rights.now prices.now (rows_refusal rights.now prices.now hour (length lines.old)) }
-    ensures lines_after { lines.new ≡ row_lines rights.now prices.now hour lines.old }
+pub fn rows(
+    year: u64,
+    rights: &[u8],
+    prices: &[i32],
+    hour: u64,
+    lines: &mut [i64],
+) -> Result<(), Refusal>
+    ensures value { result ≡ call_answer year rights.now prices.now (rows_refusal year rights.now prices.now hour (length lines.old)) }
+    ensures lines_after { lines.new ≡ row_lines year rights.now prices.now hour lines.old }
 {
     let records = rights.len() / rights::RECORD_BYTES;
-    let hour = crate::looked_at(rights, prices, hour, lines.len() != records)?;
-    rights::file_fault(rights, prices.len())?;
-    write_rows(rights, prices, hour, lines);
+    let hour = crate::looked_at(year, rights, prices, hour, lines.len() != records)?;
+    rights::file_fault(year, rights, prices.len())?;
+    write_rows(year, rights, prices, hour, lines);
     Ok(())
 }
 
 // Writes the row of each record of a file without a fault, by the record's number, which is the place of its line too; by `as`, since there is
 // no `From` from an index to 64 bits.
-fn write_rows(rights: &[u8], prices: &[i32], hour: OperatingHour, lines: &mut [i64])
-    requires { (file_refusal (length prices.now) rights.now ≡ 0) × (any_wild prices.now ≡ false) × (length lines.old ≡ record_count rights.now) }
+fn write_rows(year: u64, rights: &[u8], prices: &[i32], hour: OperatingHour, lines: &mut [i64])
+    requires { (file_refusal year (length prices.now) rights.now ≡ 0) × (any_wild prices.now ≡ false) × (length lines.old ≡ record_count rights.now) }
     ensures { lines.new ≡ list_below (row_at rights.now prices.now hour) (record_count rights.now) }
 {
     for (number, line) in lines.iter_mut().enumerate() {
-        let right = rights::read(rights, number as u64).unwrap();
+        let right = rights::read(year, rights, number as u64).unwrap();
         *line = PricedRight { right, prices }.row_cents(hour);
     }
 }

@@ -1,6 +1,6 @@
-//! Long lists of calls from a fresh book to past the year end. The book is
-//! carried by the library's words on one side and by the second calculation's
-//! book on the other.
+//! Long lists of calls from a fresh book of a year to past the year end, and lists
+//! from a book whose year is outside. The book is carried by the library's words on
+//! one side and by the second calculation's book on the other.
 
 use reference::book::Book;
 use reference::draws::Draws;
@@ -9,7 +9,9 @@ use reference::words::{counts_of, run, shortfalls_of, surpluses_of, Event};
 use reference::words::{COUNTS, SETTLED, SHORTFALLS, SURPLUSES};
 
 use crate::compare::{Case, Kind};
-use crate::drawn::{name_of, old_line, old_lines, Market};
+use crate::drawn::{
+    calendar_for, days_of, draw_good_year, name_of, old_line, old_lines, Market, OUTSIDE,
+};
 use crate::ledger::Ledger;
 use crate::lent::{Given, Lent, Row};
 use crate::library;
@@ -50,12 +52,12 @@ struct Hour {
     collected: i64,
 }
 
-fn draw_right(draws: &mut Draws, owners: u64, sizes: (u64, u64)) -> Right {
+fn draw_right(draws: &mut Draws, days: u64, owners: u64, sizes: (u64, u64)) -> Right {
     let source = draws.below(4);
-    let (x, y) = (draws.below(365) + 1, draws.below(365) + 1);
+    let (x, y) = (draws.below(days) + 1, draws.below(days) + 1);
     let (first, last) = match draws.below(4) {
         0 => (x.min(y), x.max(y)),
-        _ => (1, 365),
+        _ => (1, days),
     };
     Right {
         owner: draws.below(owners),
@@ -70,11 +72,12 @@ fn draw_right(draws: &mut Draws, owners: u64, sizes: (u64, u64)) -> Right {
 }
 
 /// Few rights and a size of market; `luck` makes a list poor or rich.
-fn draw_block(draws: &mut Draws, luck: u64) -> Block {
+fn draw_block(draws: &mut Draws, year: u64, luck: u64) -> Block {
     let records = draws.below(9);
     let owners = draws.one_of(&[64, 4]);
     let sizes = draws.one_of(&[(1, 100), (1, 10), (10, 100), (100, 100)]);
-    let right = |_| encode(&draw_right(draws, owners, sizes));
+    let days = days_of(year);
+    let right = |_| encode(&draw_right(draws, days, owners, sizes));
     Block {
         rights: (0..records).flat_map(right).collect(),
         highest_price: draws.one_of(&[100, 2_000, 10_000]),
@@ -157,15 +160,15 @@ fn second_given(book: &mut Book, event: Event, lent: &Lent) -> Given {
     }
 }
 
-/// A book opened by the library.
-fn opened(draws: &mut Draws) -> Lent {
+/// A book of a year opened by the library, which gives this refusal.
+fn opened(draws: &mut Draws, year: u64, refusal: u64) -> Lent {
     let mut lent = Lent {
         counts: Row::lent(&[], COUNTS, || draws.any()),
         shortfalls: Row::lent(&[], SHORTFALLS, || draws.any()),
         surpluses: Row::lent(&[], SURPLUSES, || old_line(draws)),
         ..Lent::default()
     };
-    assert_eq!(library::open(lent.book()), 0);
+    assert_eq!(library::open(year, lent.book()), refusal);
     lent
 }
 
@@ -196,28 +199,34 @@ fn compare_call(case: &mut Case, list: &mut List, block: &Block) {
     put_trouble(draws, &mut hour, open);
     let event = draw_event(draws, &list.book, &hour);
     draw_lines(draws, event, &mut list.words);
-    let library = list.words.after(|lent| {
-        let (book, lines, report) = lent.event_cells();
-        library::settle(book, event, lines, report)
-    });
-    let second = second_given(&mut list.book, event, &list.words);
-    case.compare_given(name_of(event), &event, &list.words, &library, second);
+    let library = settled(case, &list.words, &mut list.book, event);
     list.ledger.enter(event, &library);
     list.words = library.lent;
 }
 
-fn compare_list(case: &mut Case) {
+/// An event on both sides; gives what the library gave.
+fn settled(case: &mut Case, words: &Lent, book: &mut Book, event: Event) -> Given {
+    let library = words.after(|lent| {
+        let (book, lines, report) = lent.event_cells();
+        library::settle(book, event, lines, report)
+    });
+    let second = second_given(book, event, words);
+    case.compare_given(name_of(event), &event, words, &library, &second);
+    library
+}
+
+fn compare_list(case: &mut Case, year: u64) {
     let luck = case.draws.below(4) + 1;
-    let mut block = draw_block(&mut case.draws, luck);
+    let mut block = draw_block(&mut case.draws, year, luck);
     let mut list = List {
-        words: opened(&mut case.draws),
-        book: Book::fresh(),
-        ledger: Ledger::new(),
+        words: opened(&mut case.draws, year, 0),
+        book: Book::fresh(year),
+        ledger: Ledger::new(year),
     };
     let (mut calls, mut late_calls) = (0, 0);
     while (calls < CALLS || late_calls < LATE_CALLS) && calls < MOST_CALLS {
         if calls % BLOCK == 0 {
-            block = draw_block(&mut case.draws, luck);
+            block = draw_block(&mut case.draws, year, luck);
         }
         late_calls += u64::from(list.book.ended);
         compare_call(case, &mut list, &block);
@@ -225,31 +234,99 @@ fn compare_list(case: &mut Case) {
     }
     let ledger = &list.ledger;
     let accepted = (ledger.hours, ledger.months, ledger.year_ends);
-    assert_eq!(accepted, (8_760, 12, 1), "accepted in the list");
+    let hours = calendar_for(year).hours();
+    assert_eq!(accepted, (hours, 12, 1), "accepted in the list of {year}");
+    case.came("hours of an ended year", hours);
 }
 
-fn run_lists(test: &'static str, base: u64) {
-    let kind = Kind {
-        test,
-        base: Some(base),
-        cases: 48,
-        refusals: &[
-            ("hour", &[0, 2, 3, 4, 5, 6, 7, 8, 9, 10]),
-            ("month end", &[0, 2, 3, 4]),
-            ("year end", &[0, 2, 3, 4]),
-        ],
-    };
-    kind.run(compare_list);
-}
+/// What must come in the lists of a test: their refusals, and hours of ended years.
+type Come = &'static [(&'static str, &'static [u64])];
 
-// Two tests of a kind, for two threads.
+const IN_2025: Come = &[
+    ("hour", &[0, 2, 3, 4, 5, 6, 7, 8, 9, 10]),
+    ("month end", &[0, 2, 3, 4]),
+    ("year end", &[0, 2, 3, 4]),
+    ("hours of an ended year", &[8_760]),
+];
+const IN_OTHER_YEARS: Come = &[
+    ("hour", &[0, 2, 3, 4, 5, 6, 7, 8, 9, 10]),
+    ("month end", &[0, 2, 3, 4]),
+    ("year end", &[0, 2, 3, 4]),
+    ("hours of an ended year", &[8_760, 8_784]),
+];
+
+// Three tests of a kind, for three threads.
 
 #[test]
 fn years() {
-    run_lists("call_lists::years", 4_768_777_513_237_032_717);
+    let kind = Kind {
+        test: "call_lists::years",
+        base: Some(4_768_777_513_237_032_717),
+        cases: 48,
+        refusals: IN_2025,
+    };
+    kind.run(|case| compare_list(case, 2_025));
 }
 
 #[test]
 fn other_years() {
-    run_lists("call_lists::other_years", 8_862_811_542_163_104_129);
+    let kind = Kind {
+        test: "call_lists::other_years",
+        base: Some(8_862_811_542_163_104_129),
+        cases: 48,
+        refusals: IN_OTHER_YEARS,
+    };
+    kind.run(|case| {
+        let year = draw_good_year(&mut case.draws);
+        compare_list(case, year);
+    });
+}
+
+/// With February 2028, with the same in 2096, with February 2100, which is not
+/// longer, and one beside it. The seed is the year's number.
+const YEARS: [u64; 4] = [2_027, 2_095, 2_099, 2_098];
+
+#[test]
+fn named_years() {
+    let kind = Kind {
+        test: "call_lists::named_years",
+        base: None,
+        cases: YEARS.len() as u64,
+        refusals: IN_OTHER_YEARS,
+    };
+    kind.run(|case| compare_list(case, YEARS[case.seed as usize % YEARS.len()]));
+}
+
+/// The book is opened with a year outside, which gives it all 0: each call is then
+/// refused with 15, and all that is lent stays.
+fn compare_refused_list(case: &mut Case) {
+    let any = case.draws.any();
+    let year = case
+        .draws
+        .one_of(&[2_024, 2_100, any, OUTSIDE[0], OUTSIDE[5]]);
+    let mut words = opened(&mut case.draws, year, 15);
+    let mut book = Book::fresh(0);
+    let block = draw_block(&mut case.draws, year, 1);
+    for _ in 0..50 {
+        let draws = &mut case.draws;
+        let mut hour = draw_hour(draws, &block);
+        put_trouble(draws, &mut hour, 0);
+        let event = draw_event(draws, &book, &hour);
+        draw_lines(draws, event, &mut words);
+        let given = settled(case, &words, &mut book, event);
+        assert_eq!((given.refusal, book), (15, Book::fresh(0)));
+        words.settled.slice_mut().fill(0);
+        assert!(given.lent == words, "a refused call wrote");
+    }
+}
+
+#[test]
+fn years_outside() {
+    let kind = Kind {
+        test: "call_lists::years_outside",
+        base: Some(5_421_010_862_427_522_170),
+        cases: 300,
+        refusals: &[("hour", &[15]), ("month end", &[15]), ("year end", &[15])],
+    };
+    kind.run(compare_refused_list);
 }

@@ -133,7 +133,7 @@ impl<'a> Case<'a> {
     }
 
     /// Runs a call on both sides from the same cells and compares the refusal
-    /// and every cell; gives what the second calculation gave.
+    /// and every cell; gives what the library gave.
     pub fn compare(
         &mut self,
         call: &'static str,
@@ -144,7 +144,8 @@ impl<'a> Case<'a> {
     ) -> Given {
         let library = before.after(library);
         let second = before.after(second);
-        self.compare_given(call, input, before, &library, second)
+        self.compare_given(call, input, before, &library, &second);
+        library
     }
 
     /// Compares what both sides gave.
@@ -154,13 +155,12 @@ impl<'a> Case<'a> {
         input: &dyn Input,
         before: &Lent,
         library: &Given,
-        second: Given,
-    ) -> Given {
+        second: &Given,
+    ) {
         self.came(call, second.refusal);
-        if *library != second {
-            let table = table(before, library, &second);
+        if library != second {
+            let table = table(before, library, second);
             panic!("{call} differs\n{}\n{table}", input.text());
         }
-        second
     }
 }

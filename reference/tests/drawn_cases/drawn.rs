@@ -1,13 +1,15 @@
-//! Drawn rights, prices, blocks, books and numbers of words: mostly good ones,
-//! with edges and faults among them.
+//! Drawn years, rights, prices, blocks, books and numbers of words: mostly good
+//! ones, with edges and faults among them.
 
 mod blocks;
 mod books;
 mod market;
+mod years;
 
 pub use blocks::*;
 pub use books::*;
 pub use market::*;
+pub use years::*;
 
 use reference::draws::Draws;
 

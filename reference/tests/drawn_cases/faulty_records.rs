@@ -14,7 +14,7 @@ use reference::words::{Event, OUTCOME, SETTLED, STEPPED, STEP_ROOM};
 use reference::words::{COUNTS, SHORTFALLS, SURPLUSES};
 
 use crate::compare::{Case, Kind};
-use crate::drawn::{hour_bytes, lend_book, old_lines, old_text, Market};
+use crate::drawn::{hour_bytes, lend_book, old_lines, old_text, Market, OUTSIDE};
 use crate::lent::{Given, Lent, Row};
 use crate::rows::compare_rows;
 use crate::single_events::compare_event;
@@ -209,9 +209,10 @@ impl Faults<'_> {
 
 /// A book before an hour that is peak.
 fn book() -> Book {
-    let mut book = Book::fresh();
-    book.hours = HOUR;
-    book
+    Book {
+        hours: HOUR,
+        ..Book::fresh(2_025)
+    }
 }
 
 /// Compares a target call or a row call.
@@ -219,7 +220,7 @@ type Compare = fn(&mut Case, &Asked, &Lent) -> Given;
 
 /// What the calls are lent.
 struct Call {
-    /// Of an event and a step.
+    /// Of an event and a step; its year is that of a target call and a row call too.
     book: Book,
     rights: Row<u8>,
     prices: Row<i32>,
@@ -269,8 +270,9 @@ impl Call {
             report: Row::lent(&[], OUTCOME, || OLD),
             ..Lent::default()
         };
-        let (market, hour) = (self.market(), self.hour);
-        let given = compare(case, &Asked { market, hour }, &lent);
+        let (year, market, hour) = (self.book.year, self.market(), self.hour);
+        let asked = Asked { year, market, hour };
+        let given = compare(case, &asked, &lent);
         (given.refusal, given.lent.report.cells[0])
     }
 
@@ -421,10 +423,14 @@ const CHANGED: [Changed; 6] = [
 ];
 
 /// Changes for a target call, a row call and an hour only.
-const CHANGED_SLICES: [Changed; 3] = [
+const CHANGED_SLICES: [Changed; 4] = [
     (4, |call| call.lacking = 1),
     (4, |call| call.prices.lent = 0),
     (4, |call| call.prices = Row::lent(&[0; 1_025], 1_025, || 0)),
+    (8, |call| {
+        let at = 2 * RECORD;
+        call.rights.cells[at..at + RECORD].copy_from_slice(&encode(&good(2)));
+    }),
 ];
 
 /// Changes for an hour and a step only.
@@ -442,13 +448,22 @@ const CHANGED_BOOK: [Changed; 8] = [
     (10, fill_carry),
 ];
 
-/// The record number is 0 but in 7, whatever stood in the report before.
+/// The record number is 0 but in 7 and 8, whatever stood in the report before. With
+/// a year outside 15 comes in place of each, "before any other check".
 fn check_changed(changed: &[Changed], mut named: impl FnMut(&Call) -> (u64, u64)) {
     for (refusal, change) in changed {
         let mut call = faulty_call();
         change(&mut call);
-        let record = if *refusal == 7 { 2 } else { 0 };
+        let record = match refusal {
+            7 => 2,
+            8 => 1,
+            _ => 0,
+        };
         assert_eq!(named(&call), (*refusal, record));
+        for year in OUTSIDE {
+            call.book.year = year;
+            assert_eq!(named(&call), (15, 0), "{year}, in place of {refusal}");
+        }
     }
 }
 
@@ -458,7 +473,10 @@ fn targets_and_rows_name_no_record_but_in_7_and_8() {
         test: "faulty_records::targets_and_rows_name_no_record_but_in_7_and_8",
         base: None,
         cases: 1,
-        refusals: &[("targets", &[0, 3, 4, 5, 7]), ("rows", &[0, 3, 4, 5, 7])],
+        refusals: &[
+            ("targets", &[0, 3, 4, 5, 7, 8, 15]),
+            ("rows", &[0, 3, 4, 5, 7, 8, 15]),
+        ],
     };
     kind.run(|case| {
         let late: Changed = (3, |call| call.hour = 8_760);
@@ -475,7 +493,7 @@ fn events_name_no_record_but_in_7_and_8() {
         base: None,
         cases: 1,
         refusals: &[
-            ("hour", &[0, 1, 2, 3, 4, 5, 6, 7, 9, 10]),
+            ("hour", &[0, 1, 2, 3, 4, 5, 6, 7, 8, 9, 10, 15]),
             ("month end", &[0, 3]),
             ("year end", &[0, 3]),
         ],
@@ -499,7 +517,7 @@ fn steps_name_no_record_but_in_7() {
         test: "faulty_records::steps_name_no_record_but_in_7",
         base: None,
         cases: 1,
-        refusals: &[("step", &[0, 1, 2, 3, 4, 5, 6, 7, 9, 10])],
+        refusals: &[("step", &[0, 1, 2, 3, 4, 5, 6, 7, 9, 10, 15])],
     };
     kind.run(|case| {
         let broken: Changed = (4, |call| call.block = HOUR_BYTES - 1);

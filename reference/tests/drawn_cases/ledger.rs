@@ -2,13 +2,14 @@
 //! calls and the lines alone and compared with the book.
 
 use reference::book::HourInput;
-use reference::target::targets;
+use reference::target::{targets, Asked};
 use reference::words::Event;
 
 use crate::lent::Given;
 
-/// What the accepted calls so far say.
+/// What the accepted calls so far say, in a book's year.
 pub struct Ledger {
+    year: u64,
     month_owed: [i64; 64],
     year_owed: [i64; 64],
     month_fund: i64,
@@ -32,8 +33,9 @@ fn pay(owed: &mut [i64; 64], lines: &[i64]) -> i64 {
 }
 
 impl Ledger {
-    pub fn new() -> Ledger {
+    pub fn new(year: u64) -> Ledger {
         Ledger {
+            year,
             month_owed: [0; 64],
             year_owed: [0; 64],
             month_fund: 0,
@@ -47,6 +49,7 @@ impl Ledger {
     /// Enters a call, and checks that the book shows the ledger's sums.
     pub fn enter(&mut self, event: Event, given: &Given) {
         assert_ne!(given.refusal, 1, "in such a list 1 never comes");
+        assert_ne!(given.refusal, 15, "nor does 15, once a book is open");
         if given.refusal == 0 {
             let lines = given.lent.lines.slice();
             let settled = match event {
@@ -64,7 +67,13 @@ impl Ledger {
     /// positive target; gives F and D.
     fn enter_hour(&mut self, input: &HourInput, lines: &[i64]) -> [i64; 2] {
         let mut positive = [0; 64];
-        targets(input.rights, input.prices, self.hours, &mut positive);
+        let asked = Asked {
+            year: self.year,
+            rights: input.rights,
+            prices: input.prices,
+            hour: self.hours,
+        };
+        targets(&asked, &mut positive);
         positive = positive.map(|target| target.max(0));
         let charges: i64 = lines.iter().map(|line| (-*line).max(0)).sum();
         let fund = input.collected + charges;
@@ -100,8 +109,8 @@ impl Ledger {
     }
 
     fn check_book(&self, given: &Given) {
-        let counts = [self.hours, self.months, self.year_ends];
-        assert_eq!(given.lent.counts.slice(), counts, "counts and mark");
+        let counts = [self.hours, self.months, self.year_ends, self.year];
+        assert_eq!(given.lent.counts.slice(), counts, "counts, mark and year");
         let shortfalls = given.lent.shortfalls.slice().chunks(2);
         for (owner, cells) in shortfalls.enumerate() {
             let owed = self.month_owed[owner] + self.year_owed[owner];

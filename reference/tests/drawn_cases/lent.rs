@@ -34,6 +34,8 @@ pub struct Lent {
     pub surpluses: Row<i64>,
     pub lines: Row<i64>,
     pub payments: Row<u64>,
+    /// The day table.
+    pub table: Row<u8>,
     /// The report of all calls but the events.
     pub report: Row<u64>,
     /// The report of an event.
@@ -95,13 +97,14 @@ impl Lent {
         self.run_cells(end).1
     }
 
-    fn rows(&self) -> [Plain; 7] {
+    fn rows(&self) -> [Plain; 8] {
         [
             plain("counts", &self.counts),
             plain("shortfalls", &self.shortfalls),
             plain("surpluses", &self.surpluses),
             plain("lines", &self.lines),
             plain("payments", &self.payments),
+            plain("table", &self.table),
             plain("report", &self.report),
             plain("report of the event", &self.settled),
         ]
@@ -133,7 +136,7 @@ const STEPPED_NAMES: [&str; STEPPED] = [
 
 fn cell_name(row: &str, lent: usize, at: usize) -> String {
     let names: &[&str] = match (row, lent) {
-        ("counts", _) => &["hours settled", "months closed", "ended mark"],
+        ("counts", _) => &["hours settled", "months closed", "ended mark", "year"],
         ("surpluses", _) => &["month surplus", "year surplus"],
         ("report of the event", _) => &["record number", "F", "D"],
         ("report", 3) => &["day", "month", "peak"],
@@ -146,6 +149,7 @@ fn cell_name(row: &str, lent: usize, at: usize) -> String {
         (_, Some(name)) => String::from(*name),
         ("shortfalls", _) if at % 2 == 0 => format!("owner {} month shortfall", at / 2),
         ("shortfalls", _) => format!("owner {} year shortfall", at / 2),
+        ("table", _) => format!("day {}", at + 1),
         _ => format!("{row} {at}"),
     }
 }

@@ -4,14 +4,23 @@
 use reference::book::HourInput;
 use reference::sentence::Stopped;
 use reference::split::Limits;
+use reference::target::Asked;
 use reference::words::{BookWords, Event, LentText};
 
 #[link(name = "pupcopper", kind = "static")]
 extern "C" {
-    fn pupcopper_class(hour: u64) -> u8;
+    fn pupcopper_class(year: u64, hour: u64) -> u8;
     fn pupcopper_cents(tenths: i64) -> i64;
-    fn pupcopper_calendar(hour: u64, report: *mut u64, report_words: usize) -> u8;
+    fn pupcopper_calendar(year: u64, hour: u64, report: *mut u64, report_words: usize) -> u8;
+    fn pupcopper_days(
+        year: u64,
+        table: *mut u8,
+        table_bytes: usize,
+        report: *mut u64,
+        report_words: usize,
+    ) -> u8;
     fn pupcopper_read(
+        year: u64,
         rights: *const u8,
         rights_bytes: usize,
         record: u64,
@@ -19,6 +28,7 @@ extern "C" {
         report_words: usize,
     ) -> u8;
     fn pupcopper_next(
+        year: u64,
         rights: *const u8,
         rights_bytes: usize,
         next: u64,
@@ -26,6 +36,7 @@ extern "C" {
         report_words: usize,
     ) -> u8;
     fn pupcopper_targets(
+        year: u64,
         rights: *const u8,
         rights_bytes: usize,
         prices: *const i32,
@@ -37,6 +48,7 @@ extern "C" {
         report_words: usize,
     ) -> u8;
     fn pupcopper_rows(
+        year: u64,
         rights: *const u8,
         rights_bytes: usize,
         prices: *const i32,
@@ -59,6 +71,7 @@ extern "C" {
         report_words: usize,
     ) -> u8;
     fn pupcopper_open(
+        year: u64,
         counts: *mut u64,
         counts_words: usize,
         shortfalls: *mut u64,
@@ -153,21 +166,35 @@ extern "C" {
 // slice, so they are not null, also where it is empty, and a slice that is
 // written overlaps no other.
 
-pub fn class(hour: u64) -> u64 {
-    u64::from(unsafe { pupcopper_class(hour) })
+pub fn class(year: u64, hour: u64) -> u64 {
+    u64::from(unsafe { pupcopper_class(year, hour) })
 }
 
 pub fn cents(tenths: i64) -> i64 {
     unsafe { pupcopper_cents(tenths) }
 }
 
-pub fn calendar(hour: u64, report: &mut [u64]) -> u64 {
-    u64::from(unsafe { pupcopper_calendar(hour, report.as_mut_ptr(), report.len()) })
+pub fn calendar(year: u64, hour: u64, report: &mut [u64]) -> u64 {
+    u64::from(unsafe { pupcopper_calendar(year, hour, report.as_mut_ptr(), report.len()) })
 }
 
-pub fn read(rights: &[u8], record: u64, report: &mut [u64]) -> u64 {
+pub fn days(year: u64, table: &mut [u8], report: &mut [u64]) -> u64 {
+    let refusal = unsafe {
+        pupcopper_days(
+            year,
+            table.as_mut_ptr(),
+            table.len(),
+            report.as_mut_ptr(),
+            report.len(),
+        )
+    };
+    u64::from(refusal)
+}
+
+pub fn read(year: u64, rights: &[u8], record: u64, report: &mut [u64]) -> u64 {
     let refusal = unsafe {
         pupcopper_read(
+            year,
             rights.as_ptr(),
             rights.len(),
             record,
@@ -178,9 +205,10 @@ pub fn read(rights: &[u8], record: u64, report: &mut [u64]) -> u64 {
     u64::from(refusal)
 }
 
-pub fn next(rights: &[u8], next: u64, report: &mut [u64]) -> u64 {
+pub fn next(year: u64, rights: &[u8], next: u64, report: &mut [u64]) -> u64 {
     let refusal = unsafe {
         pupcopper_next(
+            year,
             rights.as_ptr(),
             rights.len(),
             next,
@@ -193,6 +221,7 @@ pub fn next(rights: &[u8], next: u64, report: &mut [u64]) -> u64 {
 
 /// A target call and a row call are lent the same.
 type Asking = unsafe extern "C" fn(
+    u64,
     *const u8,
     usize,
     *const i32,
@@ -204,41 +233,23 @@ type Asking = unsafe extern "C" fn(
     usize,
 ) -> u8;
 
-pub fn targets(
-    rights: &[u8],
-    prices: &[i32],
-    hour: u64,
-    lines: &mut [i64],
-    report: &mut [u64],
-) -> u64 {
-    ask(pupcopper_targets, rights, prices, hour, lines, report)
+pub fn targets(asked: &Asked, lines: &mut [i64], report: &mut [u64]) -> u64 {
+    ask(pupcopper_targets, asked, lines, report)
 }
 
-pub fn rows(
-    rights: &[u8],
-    prices: &[i32],
-    hour: u64,
-    lines: &mut [i64],
-    report: &mut [u64],
-) -> u64 {
-    ask(pupcopper_rows, rights, prices, hour, lines, report)
+pub fn rows(asked: &Asked, lines: &mut [i64], report: &mut [u64]) -> u64 {
+    ask(pupcopper_rows, asked, lines, report)
 }
 
-fn ask(
-    call: Asking,
-    rights: &[u8],
-    prices: &[i32],
-    hour: u64,
-    lines: &mut [i64],
-    report: &mut [u64],
-) -> u64 {
+fn ask(call: Asking, asked: &Asked, lines: &mut [i64], report: &mut [u64]) -> u64 {
     let refusal = unsafe {
         call(
-            rights.as_ptr(),
-            rights.len(),
-            prices.as_ptr(),
-            prices.len(),
-            hour,
+            asked.year,
+            asked.rights.as_ptr(),
+            asked.rights.len(),
+            asked.prices.as_ptr(),
+            asked.prices.len(),
+            asked.hour,
             lines.as_mut_ptr(),
             lines.len(),
             report.as_mut_ptr(),
@@ -271,9 +282,10 @@ pub fn split(
     u64::from(refusal)
 }
 
-pub fn open(book: BookWords) -> u64 {
+pub fn open(year: u64, book: BookWords) -> u64 {
     let refusal = unsafe {
         pupcopper_open(
+            year,
             book.counts.as_mut_ptr(),
             book.counts.len(),
             book.shortfalls.as_mut_ptr(),

@@ -1,13 +1,12 @@
 //! Hours at the edge of refusals 9, hour too large, and 10, carry full.
 
 use reference::book::{Book, HourInput};
-use reference::calendar::MONTH_ENDS;
 use reference::draws::Draws;
 use reference::rights::{encode, Right};
 use reference::words::{Event, COUNTS, SETTLED, SHORTFALLS, SURPLUSES};
 
 use crate::compare::{Case, Kind};
-use crate::drawn::{lend_book, old_line, old_lines};
+use crate::drawn::{calendar_for, draw_year, lend_book, old_line, old_lines};
 use crate::lent::Row;
 use crate::single_events::compare_event;
 
@@ -19,11 +18,12 @@ struct Edge {
     sizes: [u64; 4],
 }
 
-/// A fresh book, but in the midst of a month.
+/// A fresh book of a year, but in the midst of a month.
 fn draw_time(draws: &mut Draws) -> Book {
-    let mut book = Book::fresh();
+    let mut book = Book::fresh(draw_year(draws));
     let month = draws.below(12) as usize;
-    let last = month.checked_sub(1).map_or(0, |at| MONTH_ENDS[at]);
+    let ends = calendar_for(book.year).month_ends;
+    let last = month.checked_sub(1).map_or(0, |at| ends[at]);
     book.months = month as u64;
     book.hours = last + draws.below(672);
     book
@@ -114,7 +114,7 @@ fn hours_at_the_limits() {
         test: "limits::hours_at_the_limits",
         base: Some(3_935_559_000_370_003_845),
         cases: 100_000,
-        refusals: &[("hour", &[0, 1, 9, 10])],
+        refusals: &[("hour", &[0, 1, 9, 10, 15])],
     };
     kind.run(compare_hour);
 }

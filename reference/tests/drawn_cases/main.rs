@@ -20,6 +20,7 @@ mod call_lists;
 mod faulty_records;
 mod lent_words;
 mod limits;
+mod operating_years;
 mod program_runs;
 mod read;
 mod reader;

@@ -6,12 +6,15 @@ use reference::rights::{encode, Right, RECORD};
 use reference::words;
 
 use crate::compare::{Case, Input, Kind};
-use crate::drawn::{draw_rights, number_of, old_words, rights_text, Shape};
+use crate::drawn::{
+    days_of, draw_good_year, draw_rights, draw_year, number_of, old_words, rights_text, Shape,
+};
 use crate::lent::{Given, Lent, Row};
 use crate::library;
 
-/// A file and a place in it.
+/// A file, the year that it is read for, and a place in it.
 pub struct Place {
+    pub year: u64,
     pub rights: Row<u8>,
     pub record: u64,
 }
@@ -19,20 +22,23 @@ pub struct Place {
 impl Input for Place {
     fn text(&self) -> String {
         let rights = rights_text(self.rights.slice());
-        format!("from record number {}\n{rights}", self.record)
+        let Place { year, record, .. } = self;
+        format!("year {year}, from record number {record}\n{rights}")
     }
 }
 
 /// A file of few records, or now and then of the most or one more.
-pub fn draw_file(draws: &mut Draws) -> Row<u8> {
+pub fn draw_file(draws: &mut Draws, year: u64) -> Row<u8> {
     let few = draws.below(7) as usize;
+    let days = days_of(year);
     let shape = Shape {
+        days,
         records: match draws.below(200) {
             0 => draws.one_of(&[4_095, 4_096, 4_097]),
             _ => few,
         },
         nodes: draws.one_of(&[4, 1_024]),
-        today: draws.below(365) + 1,
+        today: draws.below(days) + 1,
         prices: 1_024,
         faults: 24,
     };
@@ -51,13 +57,14 @@ fn draw_record(draws: &mut Draws, records: u64) -> u64 {
 }
 
 pub fn compare_read(case: &mut Case, place: &Place, lent: &Lent) -> Given {
-    let (file, record) = (place.rights.slice(), place.record);
+    let Place { year, record, .. } = *place;
+    let file = place.rights.slice();
     case.compare(
         "read",
         place,
         lent,
-        |lent| library::read(file, record, lent.report.slice_mut()),
-        |lent| words::read(file, record, lent.report.slice_mut()),
+        |lent| library::read(year, file, record, lent.report.slice_mut()),
+        |lent| words::read(year, file, record, lent.report.slice_mut()),
     )
 }
 
@@ -67,23 +74,29 @@ fn any_record() {
         test: "read::any_record",
         base: Some(7_046_029_254_386_353_131),
         cases: 200_000,
-        refusals: &[("read", &[0, 4, 7])],
+        refusals: &[("read", &[0, 4, 7, 15])],
     };
     kind.run(|case| {
         let draws = &mut case.draws;
-        let rights = draw_file(draws);
+        let year = draw_year(draws);
+        let rights = draw_file(draws, year);
         let record = draw_record(draws, rights.lent as u64 / 16);
         let report_words = number_of(draws, words::RIGHT, 32);
         let lent = Lent {
             report: old_words(draws, report_words),
             ..Lent::default()
         };
-        compare_read(case, &Place { rights, record }, &lent);
+        let place = Place {
+            year,
+            rights,
+            record,
+        };
+        compare_read(case, &place, &lent);
     });
 }
 
-fn draw_good(draws: &mut Draws) -> [u8; RECORD] {
-    let (source, first) = (draws.below(1_024), draws.below(365) + 1);
+fn draw_good(draws: &mut Draws, days: u64) -> [u8; RECORD] {
+    let (source, first) = (draws.below(1_024), draws.below(days) + 1);
     encode(&Right {
         owner: draws.below(64),
         source,
@@ -92,7 +105,7 @@ fn draw_good(draws: &mut Draws) -> [u8; RECORD] {
         class: draws.below(3),
         size: draws.below(100_000) + 1,
         first,
-        last: first + draws.below(366 - first),
+        last: first + draws.below(days + 1 - first),
     })
 }
 
@@ -107,7 +120,8 @@ fn each_byte_of_a_record() {
         refusals: &[("read", &[0, 7])],
     };
     kind.run(|case| {
-        let good = draw_good(&mut case.draws);
+        let year = draw_good_year(&mut case.draws);
+        let good = draw_good(&mut case.draws, days_of(year));
         let lent = Lent {
             report: old_words(&mut case.draws, words::RIGHT),
             ..Lent::default()
@@ -116,8 +130,12 @@ fn each_byte_of_a_record() {
             for value in 0..=255 {
                 let mut record = good;
                 record[place] = value;
-                let rights = Row::lent(&record, RECORD, || value);
-                let given = compare_read(case, &Place { rights, record: 0 }, &lent);
+                let place = Place {
+                    year,
+                    rights: Row::lent(&record, RECORD, || value),
+                    record: 0,
+                };
+                let given = compare_read(case, &place, &lent);
                 if given.refusal == 0 {
                     let fields = words::right_words(&cut(words_of(&record)));
                     assert_eq!(given.lent.report.slice(), fields);

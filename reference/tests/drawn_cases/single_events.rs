@@ -8,8 +8,8 @@ use reference::words::{Event, COUNTS, SETTLED, SHORTFALLS, SURPLUSES};
 
 use crate::compare::{Case, Kind};
 use crate::drawn::{
-    draw_book, draw_market, lend_book, name_of, next_day, number_of, old_line, old_lines,
-    spoil_words, Market, Shape,
+    calendar_for, days_of, draw_book, draw_market, lend_book, name_of, next_day, number_of,
+    old_line, old_lines, spoil_words, Market, Shape,
 };
 use crate::lent::{Given, Lent, Row};
 use crate::library;
@@ -50,6 +50,7 @@ fn note_shortage(case: &mut Case, event: Event, given: &Given) {
 fn draw_shape(draws: &mut Draws, book: &Book) -> Shape {
     Shape {
         records: draws.below(7) as usize,
+        days: days_of(book.year),
         nodes: 4,
         today: next_day(book),
         prices: match draws.below(32) {
@@ -66,7 +67,9 @@ fn draw_shape(draws: &mut Draws, book: &Book) -> Shape {
 /// The positive targets of the hour together; some number if it has none.
 pub fn wants_of(market: &Market, book: &Book) -> u64 {
     let rights = records(market.rights.slice());
-    let targets = owner_targets(&rights, market.prices.slice(), book.hours);
+    let calendar = calendar_for(book.year);
+    let hour = book.hours % calendar.hours();
+    let targets = owner_targets(&rights, market.prices.slice(), calendar, hour);
     let wants = targets.map(|target| u64::try_from(target).unwrap_or(0));
     wants.iter().sum::<u64>().min(4_000_000_000_000)
 }
@@ -124,11 +127,11 @@ fn run(test: &'static str, base: u64) {
         base: Some(base),
         cases: 200_000,
         refusals: &[
-            ("hour", &[0, 1, 2, 3, 4, 5, 6, 7, 8, 9, 10]),
+            ("hour", &[0, 1, 2, 3, 4, 5, 6, 7, 8, 9, 10, 15]),
             ("hour that is short", &[0, 1]),
-            ("month end", &[0, 1, 2, 3, 4]),
+            ("month end", &[0, 1, 2, 3, 4, 15]),
             ("month that is short", &[0, 1]),
-            ("year end", &[0, 1, 2, 3, 4]),
+            ("year end", &[0, 1, 2, 3, 4, 15]),
             ("year that is short", &[0, 1]),
         ],
     };

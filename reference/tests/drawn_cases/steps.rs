@@ -2,7 +2,6 @@
 //! input, the closing, and the sentence on a refusal.
 
 use reference::book::Book;
-use reference::calendar::MONTH_ENDS;
 use reference::draws::Draws;
 use reference::sentence::Stopped;
 use reference::step::HOUR_BYTES;
@@ -12,8 +11,8 @@ use reference::words::{COUNTS, SHORTFALLS, SURPLUSES};
 
 use crate::compare::{Case, Input, Kind};
 use crate::drawn::{
-    block_text, draw_book, draw_market, hour_bytes, lend_book, next_day, number_of, old_text,
-    old_words, rights_text, spoil_words, Shape,
+    block_text, calendar_for, days_of, draw_book, draw_market, hour_bytes, lend_book, next_day,
+    number_of, old_text, old_words, rights_text, spoil_words, Shape,
 };
 use crate::lent::{Given, Lent, Row};
 use crate::library;
@@ -117,7 +116,7 @@ fn draw_step_book(draws: &mut Draws) -> Book {
     let month = draws.one_of(&[any, 11]);
     if draws.once_in(2) {
         book.months = month as u64;
-        book.hours = MONTH_ENDS[month] - 1;
+        book.hours = calendar_for(book.year).month_ends[month] - 1;
         book.ended = false;
     }
     book
@@ -128,6 +127,7 @@ fn draw_step_book(draws: &mut Draws) -> Book {
 pub fn draw_block(draws: &mut Draws, book: &Book) -> Block {
     let shape = Shape {
         records: draws.below(7) as usize,
+        days: days_of(book.year),
         nodes: draws.one_of(&[4, 4, 1_024]),
         today: next_day(book),
         prices: MOST_PRICES,
@@ -163,6 +163,7 @@ fn note_step(case: &mut Case, given: &Given, end: u64) {
     match given.refusal {
         0 => case.came("step without room", report[0]),
         1 => case.came("letter of a spoiled book", report[2]),
+        15 if report.len() == STEPPED => assert_eq!(report, [0, end, 0, 0, 0]),
         _ => {}
     }
     if given.refusal != 0 || report[0] == 1 {
@@ -194,7 +195,7 @@ fn run_steps(test: &'static str, base: u64) {
         cases: 40_000,
         refusals: &[
             // A block has all 1,024 prices, so 8 never comes.
-            ("step", &[0, 1, 2, 3, 4, 5, 6, 7, 9, 10]),
+            ("step", &[0, 1, 2, 3, 4, 5, 6, 7, 9, 10, 15]),
             ("step without room", &[0, 1]),
             // The words are spoiled, or the book that they stand for.
             ("letter of a spoiled book", &[0, 72]),

@@ -7,6 +7,7 @@ use reference::rights::Right;
 use reference::words::OUTCOME;
 
 use crate::compare::{Case, Kind};
+use crate::drawn::draw_good_year;
 use crate::rows::compare_rows;
 use crate::targets::{compare_targets, lend_lines, Asked};
 
@@ -50,7 +51,7 @@ fn right(example: &Example, owner: u64) -> Right {
 
 /// The examples in one file, the first held by `owner`, the next by the next;
 /// both sides must give the document's totals, as targets and as rows.
-fn compare_examples(case: &mut Case, examples: &[Example], hour: u64, owner: u64) {
+fn compare_examples(case: &mut Case, examples: &[Example], (year, hour): (u64, u64), owner: u64) {
     let mut rights = Vec::new();
     let mut expected = [0; 64];
     for (owner, example) in (owner..).zip(examples) {
@@ -58,7 +59,7 @@ fn compare_examples(case: &mut Case, examples: &[Example], hour: u64, owner: u64
         expected[owner as usize] = -100 * example.4;
     }
     let held = owner as usize..owner as usize + examples.len();
-    let asked = Asked::over(&rights, &PRICES, hour);
+    let asked = Asked::over_in(year, &rights, &PRICES, hour);
     let lent = lend_lines(&mut case.draws, 64, OUTCOME);
     let given = compare_targets(case, &asked, &lent);
     assert_eq!(given.lent.lines.slice(), expected, "the document's totals");
@@ -78,12 +79,12 @@ fn as_in_the_document() {
         refusals: &[("targets", &[0]), ("rows", &[0])],
     };
     kind.run(|case| match EXAMPLES.get(case.seed as usize) {
-        Some(example) => compare_examples(case, &[*example], 0, 0),
-        None => compare_examples(case, &EXAMPLES, 0, 0),
+        Some(example) => compare_examples(case, &[*example], (2_025, 0), 0),
+        None => compare_examples(case, &EXAMPLES, (2_025, 0), 0),
     });
 }
 
-/// The same in other hours and for other owners.
+/// The same in other hours and years and for other owners.
 #[test]
 fn in_other_hours() {
     let kind = Kind {
@@ -93,10 +94,11 @@ fn in_other_hours() {
         refusals: &[("targets", &[0]), ("rows", &[0])],
     };
     kind.run(|case| {
+        let year = draw_good_year(&mut case.draws);
         let hour = case.draws.below(8_760);
         let some = case.draws.below(7) as usize;
         let examples = case.draws.one_of(&[&EXAMPLES[..], &EXAMPLES[some..=some]]);
         let owner = case.draws.below(65 - examples.len() as u64);
-        compare_examples(case, examples, hour, owner);
+        compare_examples(case, examples, (year, hour), owner);
     });
 }

@@ -3,4 +3,4 @@ use Rattle.pupcopper.proofs.Class.{class_refused}
 use Rattle.pupcopper.proofs.pupcopper_class.Goals as goal
 
 pub returns-in-Err : goal.returns-in-Err
-returns-in-Err c = class_refused c.args.hour c.operating_hour.ensures c.in-Err.is
+returns-in-Err c = class_refused c.args.year c.args.hour c.operating_hour.ensures c.in-Err.is

@@ -6,7 +6,7 @@ use Rattle.pupcopper.proofs.pupcopper_next.Goals as goal
 
 pub returns-clause-report_after : goal.returns-clause-report_after
 returns-clause-report_after c =
-    let step = c.next-given.ensures.steps.1 in
+    let step = c.next-given.ensures.steps.2 in
     c.copy_from_slice.ensures.after
     ∙ c.of_step.ensures
     ∙ (λ i. right_report (step.right i) ++ (step.moves i ∷ cond {A = ℕ} (step.none i) 1 0 ∷ []))

@@ -7,6 +7,6 @@ use Rattle.rights.proofs.file_fault.Given as goal
 
 abbrev pub invariant-loop-number : goal.invariant-loop-number
 invariant-loop-number l = record {
-  good : any_below (fault_at l.prices l.file 7) l.number ≡ false;
-  first : FirstSoFar (fault_at l.prices l.file 8) l.number l.unpriced;
+  good : any_below (fault_at l.year l.prices l.file 7) l.number ≡ false;
+  first : FirstSoFar (fault_at l.year l.prices l.file 8) l.number l.unpriced;
 }

@@ -1,5 +1,5 @@
 -- Each return rewrites the table with the tests that led there.
-use Rattle.std.proofs.Common.{◌≡◌, ◌<◌, ℕ, List, [], get_or, length, Ok, sym, ap, ◌∙◌, arith}
+use Rattle.std.proofs.Common.{◌≡◌, ◌<◌, ℕ, List, [], get_or, length, Ok, sym, ap, ap₂, ◌∙◌, arith}
 use Rattle.std.proofs.lemmas.Bool.{le-leb, ltb-false}
 use Rattle.numbers.specs.Refusals.{first_refusal}
 use Rattle.rights.specs.Layout.{record_count, right_from, is_good, read_refusal}
@@ -8,15 +8,20 @@ use Rattle.rights.proofs.Readings.{answered_good, answered_bad}
 use Rattle.rights.proofs.RecordWords.{cut_right}
 use Rattle.rights.proofs.read.Goals as goal
 
+pub returns-then-is_outside : goal.returns-then-is_outside
+unfolding read_refusal first_refusal
+returns-then-is_outside c = rw (sym c.is_outside.ensures ∙ c.if-is_outside.true)
+
 pub returns-then-wrong_length : goal.returns-then-wrong_length
 unfolding read_refusal first_refusal
-returns-then-wrong_length c = rw (sym c.wrong_length.ensures ∙ c.if-wrong_length.true)
+returns-then-wrong_length c =
+    rw (sym c.is_outside.ensures ∙ c.if-is_outside.false, sym c.wrong_length.ensures ∙ c.if-wrong_length.true)
 
 pub returns-in_default : goal.returns-in_default
 unfolding read_refusal first_refusal
 returns-in_default c =
     rw
-    (sym c.wrong_length.ensures ∙ c.if-wrong_length.false, le-leb (record_count c.args.file.now) c.args.number (omega (arith, ltb-false _ _ (sym c.in_default.ensures.lookup.0))))
+    (sym c.is_outside.ensures ∙ c.if-is_outside.false, sym c.wrong_length.ensures ∙ c.if-wrong_length.false, le-leb (record_count c.args.file.now) c.args.number (omega (arith, ltb-false _ _ (sym c.in_default.ensures.lookup.0))))
 
 -- the record that was cut is the file's
 module _ (file : List ℕ) (number : ℕ) (inside : number < record_count file) where
@@ -31,7 +36,8 @@ returns-then-is_good c =
     (c.from_le_bytes-words.ensures.fields ∙ taken _ _ inside _ _ c.as_chunks.ensures.front_len c.in-Some.ensures.lookup.1) in
     ap Ok (c.cut.ensures ∙ is)
     ∙ sym
-    (answered_good _ _ (sym c.wrong_length.ensures ∙ c.if-wrong_length.false) inside (ap is_good (sym is) ∙ sym c.is_good.ensures ∙ c.if-is_good.true))
+    (answered_good _ _ _ (sym c.is_outside.ensures ∙ c.if-is_outside.false) (sym c.wrong_length.ensures ∙ c.if-wrong_length.false) inside
+    (ap₂ is_good (sym c.days_in_year.ensures) (sym is) ∙ sym c.is_good.ensures ∙ c.if-is_good.true))
 
 pub returns-else-is_good : goal.returns-else-is_good
 returns-else-is_good c =
@@ -39,4 +45,5 @@ returns-else-is_good c =
     let is = cut_right _ _ inside c.as_chunks.ensures.front
     (c.from_le_bytes-words.ensures.fields ∙ taken _ _ inside _ _ c.as_chunks.ensures.front_len c.in-Some.ensures.lookup.1) in
     sym
-    (answered_bad _ _ (sym c.wrong_length.ensures ∙ c.if-wrong_length.false) inside (ap is_good (sym is) ∙ sym c.is_good.ensures ∙ c.if-is_good.false))
+    (answered_bad _ _ _ (sym c.is_outside.ensures ∙ c.if-is_outside.false) (sym c.wrong_length.ensures ∙ c.if-wrong_length.false) inside
+    (ap₂ is_good (sym c.days_in_year.ensures) (sym is) ∙ sym c.is_good.ensures ∙ c.if-is_good.false))

@@ -19,29 +19,29 @@ tests wrong prices file p f e = ap₂ (λ (a b : Bool). (wrong || a) || b) (sym 
 pub returns-in_err-hour : goal.returns-in_err-hour
 returns-in_err-hour c =
     let p = err_from_is_err_and c.from_residual.result c.from_residual.ensures.1 in
-    rw (p.1, p.2) (early_hour _ _ _ _ _ (sym c.in_err-hour.ensures))
+    rw (p.1, p.2) (early_hour _ _ _ _ _ _ (sym c.in_err-hour.ensures))
 
 pub returns-then-wrong-wrong_price_count : goal.returns-then-wrong-wrong_price_count
 returns-then-wrong-wrong_price_count c =
-    ap (λ (k : ℕ). answered k 0 (operating_hour c.args.hour))
+    ap (λ (k : ℕ). answered k 0 (operating_hour c.args.year c.args.hour))
     (sym
-    (early_length _ _ _ _ (in_year _ _ (sym c.in_ok-hour.ensures))
+    (early_length _ _ _ _ _ (in_year _ _ _ (sym c.in_ok-hour.ensures))
     (tests _ (length c.args.prices.now) (length c.args.rights.now) c.wrong_price_count.ensures c.wrong_length.ensures c.if-wrong-wrong_price_count.true)))
 
 pub returns-then-any_wild : goal.returns-then-any_wild
 returns-then-any_wild c =
-    ap (λ (k : ℕ). answered k 0 (operating_hour c.args.hour))
+    ap (λ (k : ℕ). answered k 0 (operating_hour c.args.year c.args.hour))
     (sym
-    (early_wild _ _ _ _ (in_year _ _ (sym c.in_ok-hour.ensures))
+    (early_wild _ _ _ _ _ (in_year _ _ _ (sym c.in_ok-hour.ensures))
     (tests _ (length c.args.prices.now) (length c.args.rights.now) c.wrong_price_count.ensures c.wrong_length.ensures c.if-wrong-wrong_price_count.false)
     (sym c.any_wild.ensures ∙ c.if-any_wild.true)))
 
 pub returns : goal.returns
 returns c =
     c.in_ok-hour.ensures
-    ∙ ap (λ (k : ℕ). answered k 0 (operating_hour c.args.hour))
+    ∙ ap (λ (k : ℕ). answered k 0 (operating_hour c.args.year c.args.hour))
     ((answered_ok _ _ _ (sym c.in_ok-hour.ensures)).0
     ∙ sym
-    (early_none _ _ _ _ (in_year _ _ (sym c.in_ok-hour.ensures))
+    (early_none _ _ _ _ _ (in_year _ _ _ (sym c.in_ok-hour.ensures))
     (tests _ (length c.args.prices.now) (length c.args.rights.now) c.wrong_price_count.ensures c.wrong_length.ensures c.if-wrong-wrong_price_count.false)
     (sym c.any_wild.ensures ∙ c.if-any_wild.false)))

@@ -1,20 +1,22 @@
 //! Drawn books and their words.
 
 use reference::book::Book;
-use reference::calendar::{day_of, MONTH_ENDS};
+use reference::calendar::day_of;
 use reference::draws::Draws;
 use reference::words::{counts_of, shortfalls_of};
 
+use super::{calendar_for, draw_year};
 use crate::lent::{Lent, Row};
 
 const TOP: u64 = 4_000_000_000;
 
-/// Hours and months that fit each other, or miss it by one hour.
+/// Hours and months that fit each other, or miss it by one hour or by a day.
 fn draw_time(draws: &mut Draws, book: &mut Book) {
     let months = draws.below(16).min(12) as usize;
-    let end = |at: usize| MONTH_ENDS.get(at).copied();
+    let calendar = calendar_for(book.year);
+    let end = |at: usize| calendar.month_ends.get(at).copied();
     let last = months.checked_sub(1).and_then(end).unwrap_or(0);
-    let next = end(months).unwrap_or(8_760);
+    let next = end(months).unwrap_or(calendar.hours());
     let within = last + draws.below(next - last + 1);
     book.months = months as u64;
     book.hours = match draws.below(32) {
@@ -22,6 +24,7 @@ fn draw_time(draws: &mut Draws, book: &mut Book) {
         2..=7 => next,
         8 => last.wrapping_sub(1),
         9 => next + 1,
+        10 => draws.one_of(&[last.wrapping_sub(24), next + 24]),
         _ => within,
     };
     book.ended = months == 12 && draws.once_in(3);
@@ -84,7 +87,8 @@ fn draw_surplus(draws: &mut Draws, shortfalls: u64) -> u64 {
 fn draw_surpluses(draws: &mut Draws, book: &mut Book) {
     book.month_surplus = draw_surplus(draws, wrapping_sum(&book.month_shortfalls));
     book.year_surplus = draw_surplus(draws, wrapping_sum(&book.year_shortfalls));
-    let most = (book.hours % 8_761) * 4_004_000_000_000;
+    let hours = calendar_for(book.year).hours() + 1;
+    let most = (book.hours % hours) * 4_004_000_000_000;
     match draws.below(24) {
         0 => book.month_surplus = most.wrapping_sub(book.year_surplus),
         1 => book.month_surplus = (most + 1).wrapping_sub(book.year_surplus),
@@ -93,25 +97,30 @@ fn draw_surpluses(draws: &mut Draws, book: &mut Book) {
     }
 }
 
-/// Once in six books one field is spoiled.
+/// Once in five books one field is spoiled, or is what it is in a year of the other
+/// length.
 fn spoil(draws: &mut Draws, book: &mut Book) {
     let any = draws.any();
     let owner = (any % 64) as usize;
+    let hours = calendar_for(book.year).hours();
     match draws.below(48) {
-        0 => book.hours = 8_761,
+        0 => book.hours = hours + 1,
         1 => book.hours = any,
         2 => book.months = 13,
         3 => book.months = any,
         4 => book.ended = true,
-        5 => (book.months, book.hours) = (12, 8_759),
+        5 => (book.months, book.hours) = (12, hours - 1),
         6 => book.month_shortfalls[owner] = any,
         7 => book.year_shortfalls[owner] = any,
+        8 => (book.months, book.hours) = (12, draws.one_of(&[8_760, 8_784])),
+        9 => book.hours = draws.one_of(&[8_760, 8_783, 8_784]),
         _ => {}
     }
 }
 
+/// In any year, also one outside.
 pub fn draw_book(draws: &mut Draws) -> Book {
-    let mut book = Book::fresh();
+    let mut book = Book::fresh(draw_year(draws));
     draw_time(draws, &mut book);
     draw_shortfalls(draws, &mut book);
     draw_surpluses(draws, &mut book);
@@ -121,7 +130,7 @@ pub fn draw_book(draws: &mut Draws) -> Book {
 
 /// The day of a book's next hour; some day for a spoiled book.
 pub fn next_day(book: &Book) -> u64 {
-    day_of(book.hours % 8_760)
+    day_of(book.hours % calendar_for(book.year).hours())
 }
 
 /// A book as words, with cells behind them.

@@ -11,6 +11,8 @@ use crate::lent::Row;
 /// What a drawn market is like.
 pub struct Shape {
     pub records: usize,
+    /// The number of days in the year.
+    pub days: u64,
     /// Nodes below this number.
     pub nodes: u64,
     /// A day of special interest.
@@ -26,16 +28,17 @@ pub struct Market {
     pub prices: Row<i32>,
 }
 
-fn draw_days(draws: &mut Draws, today: u64) -> (u64, u64) {
-    let x = draws.below(365) + 1;
-    let y = draws.below(365) + 1;
+fn draw_days(draws: &mut Draws, days: u64, today: u64) -> (u64, u64) {
+    let x = draws.below(days) + 1;
+    let y = draws.below(days) + 1;
     match draws.below(8) {
-        0 | 1 => (1, 365),
+        0 => (1, 365),
+        1 => (1, days),
         2 => (today, today),
         3 => (x.min(today), today),
         4 => (today, x.max(today)),
         5 => (1, (today - 1).max(1)),
-        6 => ((today + 1).min(365), 365),
+        6 => ((today + 1).min(days), days),
         _ => (x.min(y), x.max(y)),
     }
 }
@@ -61,7 +64,7 @@ fn draw_size(draws: &mut Draws, style: u64) -> u64 {
 
 fn draw_right(draws: &mut Draws, shape: &Shape, owners: u64, sizes: u64) -> Right {
     let source = draws.below(shape.nodes);
-    let (first, last) = draw_days(draws, shape.today);
+    let (first, last) = draw_days(draws, shape.days, shape.today);
     Right {
         owner: draw_owner(draws, owners),
         source,
@@ -74,7 +77,8 @@ fn draw_right(draws: &mut Draws, shape: &Shape, owners: u64, sizes: u64) -> Righ
     }
 }
 
-fn put_fault(draws: &mut Draws, right: &mut Right, prices: u64) {
+fn put_fault(draws: &mut Draws, right: &mut Right, shape: &Shape) {
+    let prices = shape.prices as u64;
     match draws.below(16) {
         0 => right.owner = 64,
         1 => right.source = 1_024,
@@ -86,7 +90,7 @@ fn put_fault(draws: &mut Draws, right: &mut Right, prices: u64) {
         7 => right.size = 100_001,
         8 => right.first = 0,
         9 => (right.first, right.last) = (365, 364),
-        10 => right.last = 366,
+        10 => right.last = shape.days + 1,
         11 => right.source = prices,
         12 => right.sink = prices,
         13 => right.owner = 65_535,
@@ -105,7 +109,7 @@ fn put_faults(draws: &mut Draws, rights: &mut [Right], shape: &Shape) {
         let last = shape.records.saturating_sub(1);
         let any = draws.below(shape.records as u64 + 1) as usize;
         let place = draws.one_of(&[0, shape.records / 2, last, shape.records, any]);
-        put_fault(draws, &mut rights[place], shape.prices as u64);
+        put_fault(draws, &mut rights[place], shape);
     }
 }
 

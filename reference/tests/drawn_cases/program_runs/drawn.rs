@@ -58,6 +58,7 @@ fn draw_short_run(draws: &mut Draws) -> Run {
     put_trouble(draws, &mut hours);
     let shape = Shape {
         records: draws.below(12) as usize,
+        days: 365,
         nodes,
         today: 1,
         prices: 1_024,

@@ -22,7 +22,7 @@ returns-in_err-of_event c =
     rw (p.1, p.2)
     (refused_answer (end_call c.args.end) c.args.self.now c.args.lines.now _ 0 _ (sym c.of_event.ensures ∙ c.in_err-of_event.was)
     (end_refusal c.args.end _ _ c.into.ensures)
-    (end_names c.args.end _))
+    (end_names c.args.end _ _))
 
 pub pay-paid-requires : goal.pay-paid-requires
 pay-paid-requires c =

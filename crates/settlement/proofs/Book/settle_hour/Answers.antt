@@ -10,7 +10,9 @@ returns-in_err-of_event c =
     rw (p.1, p.2) (refused_early _ _ _ _ _ c.of_event.ensures c.in_err-of_event.was)
 
 pub hour_targets-requires : goal.hour_targets-requires
-hour_targets-requires c = (begun _ _ c.of_event.ensures c.in_ok-of_event.was).inside
+hour_targets-requires c =
+    let start = begun _ _ c.of_event.ensures c.in_ok-of_event.was in
+    (start.within, start.inside)
 
 pub returns-in_err-targets : goal.returns-in_err-targets
 returns-in_err-targets c =

@@ -1,13 +1,20 @@
--- A block of another length, or the hour that its bytes call for.
-use Rattle.std.proofs.Common.{rules, w64, refl, ◌∙◌}
+-- No such year, a block of another length, or the hour that its bytes call for.
+use Rattle.std.proofs.Common.{rules, w64, refl, sym, ◌∙◌}
 use Rattle.std.proofs.lemmas.Int.{to_z-of_z}
 use Rattle.numbers.specs.Limits.{nodes}
 use Rattle.settlement.specs.Events.{hour_call}
 use Rattle.hour_block.specs.Block.{amount_in, prices_in}
 use Rattle.hour_block.proofs.Answer.{decoded_refused, decoded_amount, decoded_prices}
 use Rattle.settlement_run.specs.Run.{hour_part}
+use Rattle.settlement_run.proofs.Blocks.{block_outside, block_broken, block_whole}
 use Rattle.settlement_run.proofs.Appending.{event_ends, appended_as, appended_nothing}
 use Rattle.settlement_run.proofs.events.settle_hour.Goals as goal
+
+pub returns-then-is_outside : goal.returns-then-is_outside
+unfolding hour_part
+returns-then-is_outside c =
+    let s = c.args in
+    rw (block_outside s.run.book.year _ (sym c.if-is_outside.ensures)) (appended_nothing _ s.run s.text.now refl c.stopped.ensures)
 
 pub returns-in-Ok : goal.returns-in-Ok
 unfolding hour_part
@@ -20,11 +27,11 @@ returns-in-Ok c =
     let amount = to_z-of_z w64 c.in-Ok.amount (search rules) ∙ decoded.1 in
     let prices = c.in-Ok.ensures.prices_after ∙ decoded_prices block _ decoded.0 in
     let answered = rw (amount, prices) at c.hour-settled.ensures in
-    rw decoded.0 (appended_as (event_ends call s.run.book settled.book _ _ settled.outcome answered refl) c.print_event.ensures)
+    rw (block_whole s.run.book.year _ (sym c.if-is_outside.ensures) decoded.0) (appended_as (event_ends call s.run.book settled.book _ _ settled.outcome answered refl) c.print_event.ensures)
 
 pub returns-in-Err : goal.returns-in-Err
 unfolding hour_part
 returns-in-Err c =
     let s = c.args in
     let refused = decoded_refused s.block.now nodes _ c.in-Err.ensures.value in
-    rw refused.0 (appended_nothing _ s.run s.text.now refl (rw refused.1 at c.stopped.ensures))
+    rw (block_broken s.run.book.year _ (sym c.if-is_outside.ensures) refused.0) (appended_nothing _ s.run s.text.now refl (rw refused.1 at c.stopped-in-Err.ensures))
