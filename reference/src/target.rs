@@ -182,6 +182,17 @@ pub fn rows(asked: &Asked, lines: &mut [i64]) -> TargetResult {
     result
 }
 
+/// A call in the year 2025, for tests.
+#[cfg(test)]
+pub(crate) fn asked<'a>(rights: &'a [u8], prices: &'a [i32], hour: u64) -> Asked<'a> {
+    Asked {
+        year: 2_025,
+        rights,
+        prices,
+        hour,
+    }
+}
+
 #[cfg(test)]
 mod tests {
     use super::*;
@@ -212,16 +223,6 @@ mod tests {
             sink,
             size: 1,
             ..decode(&RIGHT)
-        }
-    }
-
-    /// In the year 2025.
-    fn asked<'a>(rights: &'a [u8], prices: &'a [i32], hour: u64) -> Asked<'a> {
-        Asked {
-            year: 2_025,
-            rights,
-            prices,
-            hour,
         }
     }
 

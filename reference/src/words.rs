@@ -398,6 +398,7 @@ pub fn split(
 #[cfg(test)]
 mod tests {
     use super::*;
+    use crate::target::asked;
 
     /// The words of a book at its first month end.
     struct Words {
@@ -579,16 +580,6 @@ mod tests {
         report = [9; OUTCOME];
         let rows = rows(&asked, lines, &mut report);
         [(target, in_target), (rows, report[0])]
-    }
-
-    /// In the year 2025.
-    fn asked<'a>(rights: &'a [u8], prices: &'a [i32], hour: u64) -> Asked<'a> {
-        Asked {
-            year: 2_025,
-            rights,
-            prices,
-            hour,
-        }
     }
 
     /// Those of an hour, with two prices, a step, a target call and a row call.
