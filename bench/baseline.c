@@ -9,15 +9,16 @@
 
 enum { OWNERS = 64, NODES = 1024, RECORD = 16, MOST_FILE = 65536, HOURS = 8760, MONTHS = 12 };
 static const uint64_t MOST_CENTS = 4000000000u;
-static const uint64_t MOST_SURPLUS = 4004000000000u;
-static const int64_t MOST_AMOUNT = 4000000000000;
+static const int64_t LEAST_AMOUNT = -4000000000, MOST_AMOUNT = 4000000000000;
+/* the bounds of a balance, for each hour settled */
+static const int64_t LEAST_BALANCE = -4000000000, MOST_BALANCE = 4004000000000;
 static const uint64_t month_ends[MONTHS] = {720, 1464, 2208, 2928, 3672, 4392, 5136, 5880, 6552, 7296, 8016, 8760};
 
 struct book {
     uint64_t hours, months;
     int ended;
     uint64_t month_short[OWNERS], year_short[OWNERS];
-    uint64_t month_surplus, year_surplus;
+    int64_t month_balance, year_balance;
 };
 
 /* A right and an hour as their bytes stand in the files: low byte first, as every x86-64 has them. */
@@ -172,12 +173,25 @@ static uint64_t split(uint64_t fund, const uint64_t *wants, uint64_t *paid) {
     return 0;
 }
 
+/* What any fund pays, and what it leaves: a negative one pays nobody and is left as it is. */
+static int64_t pay_out(int64_t fund, const uint64_t *wants, uint64_t *paid) {
+    if (fund < 0) {
+        memset(paid, 0, OWNERS * sizeof *paid);
+        return fund;
+    }
+    return (int64_t)split((uint64_t)fund, wants, paid);
+}
+
 static uint64_t sum(const uint64_t *cells) {
     uint64_t total = 0;
     for (int i = 0; i < OWNERS; i++) {
         total += cells[i];
     }
     return total;
+}
+
+static int is_outside(int64_t balance, uint64_t hours) {
+    return balance < (int64_t)hours * LEAST_BALANCE || balance > (int64_t)hours * MOST_BALANCE;
 }
 
 static int is_spoiled(const struct book *b) {
@@ -199,8 +213,9 @@ static int is_spoiled(const struct book *b) {
     if (bits >> 32 != 0 || sum(b->month_short) + sum(b->year_short) > MOST_CENTS) {
         return 1;
     }
-    uint64_t most = b->hours * MOST_SURPLUS;
-    return b->month_surplus > most || b->year_surplus > most - b->month_surplus;
+    /* nor the sum of two balances that lie within the bounds */
+    return is_outside(b->month_balance, b->hours) || is_outside(b->year_balance, b->hours) ||
+           is_outside(b->month_balance + b->year_balance, b->hours);
 }
 
 /* The refusals that come before the rights are looked at: 1 to 6, or 0. */
@@ -224,7 +239,7 @@ static int early_refusal(const struct book *b, const int32_t *prices, int64_t co
     if (wild) {
         return 5;
     }
-    return collected < 0 || collected > MOST_AMOUNT ? 6 : 0;
+    return collected < LEAST_AMOUNT || collected > MOST_AMOUNT ? 6 : 0;
 }
 
 static int settle_hour(struct book *b, const int32_t *prices, int64_t collected, int64_t *lines) {
@@ -247,7 +262,7 @@ static int settle_hour(struct book *b, const int32_t *prices, int64_t collected,
     if (demand > MOST_CENTS || charges > MOST_CENTS) {
         return 9;
     }
-    uint64_t left = split((uint64_t)collected + charges, wants, paid);
+    int64_t left = pay_out(collected + (int64_t)charges, wants, paid);
     uint64_t unpaid = demand - sum(paid);
     if (sum(b->month_short) + sum(b->year_short) + unpaid > MOST_CENTS) {
         return 10;
@@ -258,32 +273,32 @@ static int settle_hour(struct book *b, const int32_t *prices, int64_t collected,
         }
         b->month_short[i] += wants[i] - paid[i];
     }
-    b->month_surplus += left;
+    b->month_balance += left;
     b->hours++;
     return 0;
 }
 
 static void close_month(struct book *b, int64_t *lines) {
     uint64_t paid[OWNERS];
-    uint64_t left = split(b->month_surplus, b->month_short, paid);
+    int64_t left = pay_out(b->month_balance, b->month_short, paid);
     for (int i = 0; i < OWNERS; i++) {
         lines[i] = (int64_t)paid[i];
         b->year_short[i] += b->month_short[i] - paid[i];
         b->month_short[i] = 0;
     }
-    b->year_surplus += left;
-    b->month_surplus = 0;
+    b->year_balance += left;
+    b->month_balance = 0;
     b->months++;
 }
 
 static void close_year(struct book *b, int64_t *lines) {
     uint64_t paid[OWNERS];
-    uint64_t left = split(b->year_surplus, b->year_short, paid);
+    int64_t left = pay_out(b->year_balance, b->year_short, paid);
     for (int i = 0; i < OWNERS; i++) {
         lines[i] = (int64_t)paid[i];
         b->year_short[i] -= paid[i];
     }
-    b->year_surplus = left;
+    b->year_balance = left;
     b->ended = 1;
 }
 
@@ -346,7 +361,7 @@ int main(void) {
         }
     } while (got == sizeof hours);
     make_room();
-    text_used += (size_t)sprintf(text + text_used, "F %llu %llu\n", (unsigned long long)b.month_surplus, (unsigned long long)b.year_surplus);
+    text_used += (size_t)sprintf(text + text_used, "F %lld %lld\n", (long long)b.month_balance, (long long)b.year_balance);
     flush_text();
     return 0;
 }

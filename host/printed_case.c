@@ -1,5 +1,5 @@
 /* A host that settles the printed case of the scope paper: two rights, two hours. It prints each line that is not zero (H, M or Y, the
-   hour or the month, the owner, the cents) and last F and both surpluses; or R and its number, if a call is refused. */
+   hour or the month, the owner, the cents) and last F and both balances; or R and its number, if a call is refused. */
 #include "pupcopper.h"
 
 #include <inttypes.h>
@@ -25,7 +25,7 @@ struct hour {
 struct book {
     uint64_t counts[PUPCOPPER_COUNTS];
     uint64_t shortfalls[PUPCOPPER_SHORTFALLS];
-    int64_t surpluses[PUPCOPPER_SURPLUSES];
+    int64_t balances[PUPCOPPER_BALANCES];
 };
 
 /* Writes a number, low byte first. */
@@ -55,16 +55,16 @@ static void print_lines(char event, uint64_t number, const int64_t *lines) {
 }
 
 static uint8_t open_book(struct book *book) {
-    return pupcopper_open(YEAR, book->counts, PUPCOPPER_COUNTS, book->shortfalls, PUPCOPPER_SHORTFALLS, book->surpluses,
-                          PUPCOPPER_SURPLUSES);
+    return pupcopper_open(YEAR, book->counts, PUPCOPPER_COUNTS, book->shortfalls, PUPCOPPER_SHORTFALLS, book->balances,
+                          PUPCOPPER_BALANCES);
 }
 
 static uint8_t settle_hour(struct book *book, const struct hour *hour) {
     int64_t lines[PUPCOPPER_OWNERS] = {0};
     int64_t report[PUPCOPPER_SETTLED] = {0};
     uint64_t number = book->counts[0];
-    uint8_t refusal = pupcopper_hour(book->counts, PUPCOPPER_COUNTS, book->shortfalls, PUPCOPPER_SHORTFALLS, book->surpluses,
-                                     PUPCOPPER_SURPLUSES, hour->rights, sizeof hour->rights, hour->prices, PRICES, hour->collected,
+    uint8_t refusal = pupcopper_hour(book->counts, PUPCOPPER_COUNTS, book->shortfalls, PUPCOPPER_SHORTFALLS, book->balances,
+                                     PUPCOPPER_BALANCES, hour->rights, sizeof hour->rights, hour->prices, PRICES, hour->collected,
                                      lines, PUPCOPPER_OWNERS, report, PUPCOPPER_SETTLED);
     if (refusal == 0) {
         print_lines('H', number, lines);
@@ -77,8 +77,8 @@ static uint8_t close_month(struct book *book) {
     int64_t lines[PUPCOPPER_OWNERS] = {0};
     int64_t report[PUPCOPPER_SETTLED] = {0};
     uint64_t number = book->counts[1];
-    uint8_t refusal = pupcopper_month_end(book->counts, PUPCOPPER_COUNTS, book->shortfalls, PUPCOPPER_SHORTFALLS, book->surpluses,
-                                          PUPCOPPER_SURPLUSES, lines, PUPCOPPER_OWNERS, report, PUPCOPPER_SETTLED);
+    uint8_t refusal = pupcopper_month_end(book->counts, PUPCOPPER_COUNTS, book->shortfalls, PUPCOPPER_SHORTFALLS, book->balances,
+                                          PUPCOPPER_BALANCES, lines, PUPCOPPER_OWNERS, report, PUPCOPPER_SETTLED);
     if (refusal == 0) {
         print_lines('M', number, lines);
     }
@@ -89,8 +89,8 @@ static uint8_t close_month(struct book *book) {
 static uint8_t end_year(struct book *book) {
     int64_t lines[PUPCOPPER_OWNERS] = {0};
     int64_t report[PUPCOPPER_SETTLED] = {0};
-    uint8_t refusal = pupcopper_year_end(book->counts, PUPCOPPER_COUNTS, book->shortfalls, PUPCOPPER_SHORTFALLS, book->surpluses,
-                                         PUPCOPPER_SURPLUSES, lines, PUPCOPPER_OWNERS, report, PUPCOPPER_SETTLED);
+    uint8_t refusal = pupcopper_year_end(book->counts, PUPCOPPER_COUNTS, book->shortfalls, PUPCOPPER_SHORTFALLS, book->balances,
+                                         PUPCOPPER_BALANCES, lines, PUPCOPPER_OWNERS, report, PUPCOPPER_SETTLED);
     if (refusal == 0) {
         print_lines('Y', 0, lines);
     }
@@ -132,7 +132,7 @@ int main(void) {
     struct book book = {0};
     uint8_t refusal = settle_case(&book);
     if (refusal == 0) {
-        printf("F %" PRId64 " %" PRId64 "\n", book.surpluses[0], book.surpluses[1]);
+        printf("F %" PRId64 " %" PRId64 "\n", book.balances[0], book.balances[1]);
     } else {
         printf("R %u\n", (unsigned)refusal);
     }

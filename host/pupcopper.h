@@ -37,8 +37,9 @@ enum {
     PUPCOPPER_OWNERS = 64,      /* lines of an event or a target call */
     PUPCOPPER_COUNTS = 4,       /* words of a book: hours settled, months closed, 1 if it is ended and else 0, the year */
     PUPCOPPER_SHORTFALLS = 128, /* words of a book: owner i's month shortfall at 2 * i, its year shortfall at 2 * i + 1 */
-    PUPCOPPER_SURPLUSES = 2,    /* words of a book: the month surplus, the year surplus */
-    PUPCOPPER_SETTLED = 3,      /* words of an event's report: the record number of 7 and 8, F (the fund), D (the sum of the wants) */
+    PUPCOPPER_BALANCES = 2,     /* words of a book: the month balance, the year balance; either sign */
+    PUPCOPPER_SETTLED = 3,      /* words of an event's report: the record number of 7 and 8, F (the fund, of either sign), D (the sum of
+                                   the wants) */
     PUPCOPPER_OUTCOME = 1,      /* words of a target call's and a row call's report: the record number of 7 and 8 */
     PUPCOPPER_ALLOCATION = 1,   /* words of a split's report: what is left of the fund */
     PUPCOPPER_HOUR = 3,         /* words of a calendar call's report: day, month, 1 in a peak hour and else 0 */
@@ -127,32 +128,40 @@ uint8_t pupcopper_split(size_t owners, uint64_t total, uint64_t fund, const uint
 
 /* A book crosses as three slices, which the host keeps from call to call. It opens with its year and keeps it: month ends, the last day
    and the last hour are those of that year. In an event and in a step 4 comes first for counts of another number of words, which have no
-   year to look at; then 15 for the year, their fourth word; then 4 for shortfalls or surpluses of another number of words; then 4 for a
-   report of another number of words; then 1, a spoiled book, for a mark that is neither 0 nor 1 or a surplus below 0; then what the call
-   itself refuses, lowest first. */
+   year to look at; then 15 for the year, their fourth word; then 4 for shortfalls or balances of another number of words; then 4 for a
+   report of another number of words; then 1, a spoiled book, for a mark that is neither 0 nor 1; then what the call itself refuses,
+   lowest first.
+
+   Any two balances are those of a book. An event, and the hour of a step, refuse it with 1 unless each balance, and the two together,
+   lie between the hours settled times -4,000,000,000 and the hours settled times 4,004,000,000,000. */
 
 /* Writes a fresh book of the year, all zeros but for the year, over any words. A year outside 2025 to 2099 is refused with 15, and the
    book is written all zeros, the year included. 15 comes before 4, a slice of another number of words; where one has another number,
    nothing is written, with 15 as with 4. */
 uint8_t pupcopper_open(uint64_t year, uint64_t *counts, size_t counts_words, uint64_t *shortfalls, size_t shortfalls_words,
-                       int64_t *surpluses, size_t surpluses_words);
+                       int64_t *balances, size_t balances_words);
 
-/* The three events. On an ended book each is 2. */
+/* The three events. On an ended book each is 2.
 
-/* Settles the next hour and writes its 64 lines; 3 while a month end is due, and after the year's last. */
-uint8_t pupcopper_hour(uint64_t *counts, size_t counts_words, uint64_t *shortfalls, size_t shortfalls_words, int64_t *surpluses,
-                       size_t surpluses_words, const uint8_t *rights, size_t rights_bytes, const int32_t *prices,
+   F is at an hour the amount collected plus all charges, at a month end the month balance, at a year end the year balance. Where it is
+   below 0 nobody is paid, every want goes where an unpaid one goes, and F itself where what is left of a fund goes: an hour's to the
+   month balance, a month's to the year balance, while a year's stays as it is. D is the sum of the wants, also then. */
+
+/* Settles the next hour and writes its 64 lines; 3 while a month end is due, and after the year's last; 6 for an amount collected below
+   -4,000,000,000 or above 4,000,000,000,000. */
+uint8_t pupcopper_hour(uint64_t *counts, size_t counts_words, uint64_t *shortfalls, size_t shortfalls_words, int64_t *balances,
+                       size_t balances_words, const uint8_t *rights, size_t rights_bytes, const int32_t *prices,
                        size_t prices_count, int64_t collected, int64_t *lines, size_t lines_count, int64_t *report,
                        size_t report_words);
 
 /* Closes the month whose last hour is settled, and writes its 64 lines; 3 if there is none. */
 uint8_t pupcopper_month_end(uint64_t *counts, size_t counts_words, uint64_t *shortfalls, size_t shortfalls_words,
-                            int64_t *surpluses, size_t surpluses_words, int64_t *lines, size_t lines_count, int64_t *report,
+                            int64_t *balances, size_t balances_words, int64_t *lines, size_t lines_count, int64_t *report,
                             size_t report_words);
 
 /* Ends the year and writes its 64 lines; 3 before all twelve months are closed. */
 uint8_t pupcopper_year_end(uint64_t *counts, size_t counts_words, uint64_t *shortfalls, size_t shortfalls_words,
-                           int64_t *surpluses, size_t surpluses_words, int64_t *lines, size_t lines_count, int64_t *report,
+                           int64_t *balances, size_t balances_words, int64_t *lines, size_t lines_count, int64_t *report,
                            size_t report_words);
 
 /* The calls of a run, as the program makes them: on a fresh book and a text whose end is 0 a step for each block of the input, and
@@ -161,26 +170,27 @@ uint8_t pupcopper_year_end(uint64_t *counts, size_t counts_words, uint64_t *shor
    and says so in its report; once the text is written out it can be made again with the end 0.
 
    A report or a book of another number of words is refused with 4 here too, in a step a book of a year outside 2025 to 2099 with 15, and
-   a mark that is neither 0 nor 1, or a surplus below 0, with 1, in the order told above and before the room is looked at. Then nothing is
-   written but the report, if it has its words: the end that was given and else zeros. */
+   a mark that is neither 0 nor 1 with 1, in the order told above and before the room is looked at. Then nothing is written but the
+   report, if it has its words: the end that was given and else zeros. */
 
 /* One block: the amount collected (64 bits signed), then 1,024 prices (32 bits signed), low byte first. Settles the next hour, and
    after it the month end and the year end that are due, and appends `H`, `M` and `Y` lines as the program prints them. Gives the
    refusal that stops the run, 0 if it goes on. A refused event prints no line and leaves the book as it was; what the block settled
    before it stands. Its letter is that of its lines (72, 77, 89), its number the hours settled, the months closed, or 0. In 7 the
    record number is that of the first bad right, else it is 0. A block of another length than PUPCOPPER_BLOCK is an hour refused
-   with 4, on any book of a year from 2025 to 2099. Where the refusal is found in the words of the book or the report (4, 15, 1), no
-   event is named and the letter is 0: a host that prints a sentence for such a refusal passes the letter itself, 72, as 0 would name
-   the rights file. */
-uint8_t pupcopper_step(uint64_t *counts, size_t counts_words, uint64_t *shortfalls, size_t shortfalls_words, int64_t *surpluses,
-                       size_t surpluses_words, const uint8_t *rights, size_t rights_bytes, const uint8_t *block,
+   with 4, on any book of a year from 2025 to 2099. Where the refusal is found in the words of the book or the report (4, 15, or 1 for
+   the mark), no event is named and the letter is 0: a host that prints a sentence for such a refusal passes the letter itself, 72, as 0
+   would name the rights file. */
+uint8_t pupcopper_step(uint64_t *counts, size_t counts_words, uint64_t *shortfalls, size_t shortfalls_words, int64_t *balances,
+                       size_t balances_words, const uint8_t *rights, size_t rights_bytes, const uint8_t *block,
                        size_t block_bytes, uint8_t *text, size_t text_bytes, size_t end, uint64_t *report,
                        size_t report_words);
 
-/* The last line of a statement: `F` and both surpluses where `refusal` is 0, else `R` and `refusal`. The book is only read, and its year
-   is not looked at, so that a run whose step gave 15 can be closed. */
+/* The last line of a statement: `F` and both balances, with a minus sign where one is below 0, if `refusal` is 0; else `R` and
+   `refusal`. The book is only read: its year and the bounds of its balances are not looked at, so that a run whose step gave 15 can be
+   closed. */
 uint8_t pupcopper_closing(const uint64_t *counts, size_t counts_words, const uint64_t *shortfalls, size_t shortfalls_words,
-                          const int64_t *surpluses, size_t surpluses_words, uint8_t refusal, uint8_t *text, size_t text_bytes,
+                          const int64_t *balances, size_t balances_words, uint8_t refusal, uint8_t *text, size_t text_bytes,
                           size_t end, uint64_t *report, size_t report_words);
 
 /* The sentence and its newline that the program writes to standard error on a refusal, such as

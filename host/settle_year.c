@@ -11,7 +11,7 @@ enum { YEAR = 2025, RIGHTS_ROOM = 65537, WRONG_LENGTH = 4, NOT_WRITTEN = 2 };
 struct book {
     uint64_t counts[PUPCOPPER_COUNTS];
     uint64_t shortfalls[PUPCOPPER_SHORTFALLS];
-    int64_t surpluses[PUPCOPPER_SURPLUSES];
+    int64_t balances[PUPCOPPER_BALANCES];
 };
 
 /* What stopped the run: the refusal, or 0; the refused event's letter and number; the record of 7 and 8. */
@@ -36,8 +36,8 @@ static size_t read_rights(uint8_t *rights) {
 static struct stop settle_block(struct book *book, const uint8_t *rights, size_t rights_bytes, const uint8_t *block, size_t bytes) {
     static uint8_t text[PUPCOPPER_STEP_ROOM];
     uint64_t report[PUPCOPPER_STEPPED] = {0};
-    uint8_t refusal = pupcopper_step(book->counts, PUPCOPPER_COUNTS, book->shortfalls, PUPCOPPER_SHORTFALLS, book->surpluses,
-                                     PUPCOPPER_SURPLUSES, rights, rights_bytes, block, bytes, text, sizeof text, 0, report,
+    uint8_t refusal = pupcopper_step(book->counts, PUPCOPPER_COUNTS, book->shortfalls, PUPCOPPER_SHORTFALLS, book->balances,
+                                     PUPCOPPER_BALANCES, rights, rights_bytes, block, bytes, text, sizeof text, 0, report,
                                      PUPCOPPER_STEPPED);
     fwrite(text, 1, report[1], stdout);
     return (struct stop){.refusal = refusal, .letter = (uint8_t)report[2], .number = report[3], .record = report[4]};
@@ -57,7 +57,7 @@ static struct stop settle_blocks(struct book *book, const uint8_t *rights, size_
 static void print_last_line(const struct book *book, uint8_t refusal) {
     uint8_t text[PUPCOPPER_CLOSING_ROOM];
     uint64_t report[PUPCOPPER_CLOSED] = {0};
-    pupcopper_closing(book->counts, PUPCOPPER_COUNTS, book->shortfalls, PUPCOPPER_SHORTFALLS, book->surpluses, PUPCOPPER_SURPLUSES,
+    pupcopper_closing(book->counts, PUPCOPPER_COUNTS, book->shortfalls, PUPCOPPER_SHORTFALLS, book->balances, PUPCOPPER_BALANCES,
                       refusal, text, sizeof text, 0, report, PUPCOPPER_CLOSED);
     fwrite(text, 1, report[1], stdout);
 }
@@ -72,8 +72,8 @@ int main(void) {
     static uint8_t rights[RIGHTS_ROOM];
     size_t rights_bytes = read_rights(rights);
     struct book book;
-    pupcopper_open(YEAR, book.counts, PUPCOPPER_COUNTS, book.shortfalls, PUPCOPPER_SHORTFALLS, book.surpluses,
-                   PUPCOPPER_SURPLUSES);
+    pupcopper_open(YEAR, book.counts, PUPCOPPER_COUNTS, book.shortfalls, PUPCOPPER_SHORTFALLS, book.balances,
+                   PUPCOPPER_BALANCES);
     struct stop stop = {.refusal = WRONG_LENGTH};
     if (rights_bytes < RIGHTS_ROOM) {
         stop = settle_blocks(&book, rights, rights_bytes);

@@ -1,4 +1,5 @@
-//! The book and its events.
+//! The book and its events, as Wish 6 has them, "Hours that collect less than nothing":
+//! it makes the paper's surpluses signed balances.
 
 use crate::calendar::{calendar_of, Calendar};
 use crate::refusal::{
@@ -11,15 +12,19 @@ use crate::target::{faulty_record, has_wild_price, has_wrong_length, owner_targe
 
 /// "all shortfalls together above 4,000,000,000".
 pub const TOP_SHORTFALLS: u128 = 4_000_000_000;
-/// "surpluses together above hours times 4,004,000,000,000".
-pub const TOP_SURPLUS_PER_HOUR: u128 = 4_004_000_000_000;
-/// "collected below 0 or above 4,000,000,000,000".
+/// "Collected may run from -4,000,000,000 up to the old top, and 6 moves with it."
+pub const LEAST_COLLECTED: i64 = -4_000_000_000;
+/// The old top: "above 4,000,000,000,000".
 pub const TOP_COLLECTED: i64 = 4_000_000_000_000;
+/// "between hours times -4,000,000,000 and hours times 4,004,000,000,000".
+pub const LEAST_BALANCE_PER_HOUR: i128 = -4_000_000_000;
+pub const TOP_BALANCE_PER_HOUR: i128 = 4_004_000_000_000;
 /// "positive targets, or charges, above 4,000,000,000 in total".
 pub const TOP_HOUR: u128 = 4_000_000_000;
 
-/// The state between events; "amounts in it are unsigned 64-bit cents". "A book
-/// opens with its year and keeps it"; the year may be any number.
+/// The state between events; "amounts in it are unsigned 64-bit cents", but "Each
+/// surplus becomes a signed balance". "A book opens with its year and keeps it"; the
+/// year may be any number.
 #[derive(Clone, Copy, Debug, PartialEq, Eq)]
 pub struct Book {
     pub year: u64,
@@ -28,8 +33,8 @@ pub struct Book {
     pub ended: bool,
     pub month_shortfalls: [u64; OWNERS],
     pub year_shortfalls: [u64; OWNERS],
-    pub month_surplus: u64,
-    pub year_surplus: u64,
+    pub month_balance: i64,
+    pub year_balance: i64,
 }
 
 /// What an opening gives.
@@ -44,7 +49,7 @@ pub struct Opening {
 pub struct EventResult {
     pub refusal: u64,
     pub record: u64,
-    pub fund: u64,
+    pub fund: i64,
     pub wants: u64,
     pub book: Book,
 }
@@ -59,10 +64,10 @@ pub struct HourInput<'a> {
 
 /// The wants, the fund and the payments of one event.
 struct Settled {
-    fund: u64,
+    fund: i64,
     wants: [u64; OWNERS],
     paid: [u64; OWNERS],
-    left: u64,
+    left: i64,
 }
 
 /// A 128-bit number that is known to fit 64 bits.
@@ -70,17 +75,33 @@ fn narrow(number: u128) -> u64 {
     u64::try_from(number).unwrap_or(u64::MAX)
 }
 
+/// An amount as a signed number, which it is known to fit.
+fn cents(amount: u64) -> i64 {
+    i64::try_from(amount).unwrap_or(i64::MAX)
+}
+
 /// Runs the split within the hall's limits, which the refusals before it keep the
-/// wants to.
-fn settle(fund: u64, wants: [u64; OWNERS]) -> Settled {
-    let mut paid = [0; OWNERS];
-    let result = split(HALL, fund, &wants, &mut paid);
+/// wants to; gives what is left.
+fn split_fund(fund: u64, wants: &[u64; OWNERS], paid: &mut [u64; OWNERS]) -> i64 {
+    let result = split(HALL, fund, wants, paid);
     assert_eq!(result.refusal, ACCEPTED, "an event's split is refused");
+    cents(result.left)
+}
+
+/// What any F pays of the wants, and what is left of it. "If an event's F is negative,
+/// no one is paid, every want carries, and F itself goes where what is left would have
+/// gone".
+fn settle(fund: i64, wants: [u64; OWNERS]) -> Settled {
+    let mut paid = [0; OWNERS];
+    let left = match u64::try_from(fund) {
+        Ok(fund) => split_fund(fund, &wants, &mut paid),
+        Err(_) => fund,
+    };
     Settled {
         fund,
         wants,
         paid,
-        left: result.left,
+        left,
     }
 }
 
@@ -128,8 +149,8 @@ impl Book {
             ended: false,
             month_shortfalls: [0; OWNERS],
             year_shortfalls: [0; OWNERS],
-            month_surplus: 0,
-            year_surplus: 0,
+            month_balance: 0,
+            year_balance: 0,
         }
     }
 
@@ -137,8 +158,14 @@ impl Book {
         sum(&self.month_shortfalls) + sum(&self.year_shortfalls)
     }
 
-    fn surpluses(&self) -> u128 {
-        u128::from(self.month_surplus) + u128::from(self.year_surplus)
+    /// "For 1, each balance, and the two together, lie between hours times
+    /// -4,000,000,000 and hours times 4,004,000,000,000."
+    fn has_balances_outside(&self) -> bool {
+        let hours = i128::from(self.hours);
+        let between = hours * LEAST_BALANCE_PER_HOUR..=hours * TOP_BALANCE_PER_HOUR;
+        let [month, year] = [self.month_balance, self.year_balance].map(i128::from);
+        let all = [month, year, month + year];
+        !all.iter().all(|balance| between.contains(balance))
     }
 
     /// "hours not between the last closed month's end (0 if none) and the next
@@ -160,7 +187,7 @@ impl Book {
             || (self.months == 12 && self.hours != calendar.hours())
             || (self.ended && self.months < 12)
             || self.all_shortfalls() > TOP_SHORTFALLS
-            || self.surpluses() > u128::from(self.hours) * TOP_SURPLUS_PER_HOUR
+            || self.has_balances_outside()
     }
 
     /// The hours stand at the end of the next month to close, on a book that is
@@ -199,7 +226,7 @@ impl Book {
         let all = records(input.rights);
         let bad = first_bad(&all, calendar);
         let unpriced = first_unpriced(&all, input.prices.len());
-        let wild_amount = input.collected < 0 || input.collected > TOP_COLLECTED;
+        let wild_amount = !(LEAST_COLLECTED..=TOP_COLLECTED).contains(&input.collected);
         let wrong_length = has_wrong_length(input.rights, input.prices, lines);
         let refusal = lowest(&[
             (SPOILED_BOOK, self.is_spoiled(calendar)),
@@ -222,7 +249,8 @@ impl Book {
     fn hour_amount_refusal(&self, targets: &[i64; OWNERS], collected: i64) -> u64 {
         let wants = sum(&positive(targets));
         let charges = sum(&negative(targets));
-        let fund = u128::from(collected.unsigned_abs()) + charges;
+        // "every want carries" if F is negative, as if it were 0
+        let fund = u128::try_from(hour_fund(targets, collected)).unwrap_or(0);
         let after = self.all_shortfalls() + wants.saturating_sub(fund);
         lowest(&[
             // "positive targets, or charges, above 4,000,000,000 in total"
@@ -253,9 +281,7 @@ impl Book {
     /// "F is the amount collected plus all charges ... wants are the positive
     /// targets."
     fn settle_hour(self, targets: &[i64; 64], collected: i64, lines: &mut [i64]) -> EventResult {
-        let charges = sum(&negative(targets));
-        let fund = narrow(u128::from(collected.unsigned_abs()) + charges);
-        let settled = settle(fund, positive(targets));
+        let settled = settle(hour_fund(targets, collected), positive(targets));
         // "an owner's line is its credit, or its negative target, or 0"
         for ((line, target), paid) in lines.iter_mut().zip(targets).zip(settled.paid) {
             *line = if *target < 0 { *target } else { cents(paid) };
@@ -263,9 +289,9 @@ impl Book {
         let mut book = self;
         book.hours += 1;
         // "Unpaid want is added to the owner's month shortfall, what is left to
-        // the month surplus."
+        // the month surplus", which is a balance now: "an hour's to the month balance".
         book.month_shortfalls = added(self.month_shortfalls, unpaid(&settled));
-        book.month_surplus = self.month_surplus.saturating_add(settled.left);
+        book.month_balance = self.month_balance + settled.left;
         accepted(&settled, book)
     }
 
@@ -286,16 +312,17 @@ impl Book {
         }
         // "F is the month surplus, wants are the month shortfalls, lines are
         // the payments."
-        let settled = settle(self.month_surplus, self.month_shortfalls);
+        let settled = settle(self.month_balance, self.month_shortfalls);
         write_payments(&settled, lines);
         let mut book = self;
         book.months += 1;
         // "Unpaid wants are added to the year shortfalls, what is left to the
-        // year surplus; the month's cells become 0."
+        // year surplus; the month's cells become 0", and F too: "a month's to the year
+        // balance".
         book.year_shortfalls = added(self.year_shortfalls, unpaid(&settled));
-        book.year_surplus = self.year_surplus.saturating_add(settled.left);
+        book.year_balance = self.year_balance + settled.left;
         book.month_shortfalls = [0; OWNERS];
-        book.month_surplus = 0;
+        book.month_balance = 0;
         accepted(&settled, book)
     }
 
@@ -315,27 +342,28 @@ impl Book {
             return self.refused(refusal, 0);
         }
         // "the same from the year's cells"
-        let settled = settle(self.year_surplus, self.year_shortfalls);
+        let settled = settle(self.year_balance, self.year_shortfalls);
         write_payments(&settled, lines);
         let mut book = self;
         // "Unpaid wants and what is left stay as the year's cells, and the book
-        // is ended."
+        // is ended."; of F "a year's stays as it is".
         book.year_shortfalls = unpaid(&settled);
-        book.year_surplus = settled.left;
+        book.year_balance = settled.left;
         book.ended = true;
         accepted(&settled, book)
     }
-}
-
-/// A payment as a line; payments are at most 4,000,000,000.
-fn cents(paid: u64) -> i64 {
-    i64::try_from(paid).unwrap_or(i64::MAX)
 }
 
 fn write_payments(settled: &Settled, lines: &mut [i64]) {
     for (line, paid) in lines.iter_mut().zip(settled.paid) {
         *line = cents(paid);
     }
+}
+
+/// "F is the amount collected plus all charges"; of targets that are at most 4,096
+/// times 10,000,000,000 cents in all.
+fn hour_fund(targets: &[i64; OWNERS], collected: i64) -> i64 {
+    collected + cents(narrow(sum(&negative(targets))))
 }
 
 /// The positive targets, 0 in place of the others.
@@ -361,6 +389,9 @@ fn accepted(settled: &Settled, book: Book) -> EventResult {
 #[cfg(test)]
 mod tests {
     use super::*;
+
+    mod balances;
+    mod negative_funds;
 
     const RIGHT: [u8; 16] = [5, 0, 0, 0, 1, 0, 0, 2, 10, 0, 0, 0, 1, 0, 109, 1];
 
@@ -410,7 +441,7 @@ mod tests {
     }
 
     #[test]
-    fn spoiled_amounts() {
+    fn spoiled_shortfalls() {
         let mut book = at(1, 0);
         book.month_shortfalls[0] = 3_999_999_999;
         book.year_shortfalls[63] = 1;
@@ -418,14 +449,6 @@ mod tests {
         book.year_shortfalls[63] = 2;
         assert!(is_spoiled(book));
         book.year_shortfalls[63] = u64::MAX;
-        assert!(is_spoiled(book));
-        let mut book = at(1, 0);
-        book.month_surplus = 4_003_999_999_999;
-        book.year_surplus = 1;
-        assert!(!is_spoiled(book));
-        book.year_surplus = 2;
-        assert!(is_spoiled(book));
-        book.year_surplus = u64::MAX;
         assert!(is_spoiled(book));
     }
 
@@ -456,16 +479,23 @@ mod tests {
         assert_eq!(full.book.month_shortfalls[5], 10);
         assert_eq!(hour(full.book, 1, 0).refusal, 10);
         assert_eq!(hour(full.book, 1, 1).refusal, 0);
-        assert_eq!(hour(full.book, -1, 0).book.month_surplus, 1);
+        assert_eq!(hour(full.book, -1, 0).book.month_balance, 1);
     }
 
     #[test]
     fn wild_amounts() {
-        assert_eq!(hour(at(0, 0), 1, -1).refusal, 6);
-        assert_eq!(hour(at(0, 0), 1, 4_000_000_000_001).refusal, 6);
+        let refusal = |collected| hour(at(0, 0), 1, collected).refusal;
+        assert_eq!([-4_000_000_001, i64::MIN].map(refusal), [6; 2]);
+        assert_eq!([4_000_000_000_001, i64::MAX].map(refusal), [6; 2]);
+        assert_eq!(
+            [-4_000_000_000, -1, 0, 4_000_000_000_000].map(refusal),
+            [0; 4]
+        );
         let most = hour(at(0, 0), 0, 4_000_000_000_000);
-        assert_eq!(most.book.month_surplus, 4_000_000_000_000);
-        assert_eq!(hour(at(0, 0), 500_001, -1).refusal, 5);
+        assert_eq!(most.book.month_balance, 4_000_000_000_000);
+        let least = hour(at(0, 0), 0, -4_000_000_000);
+        assert_eq!(least.book.month_balance, -4_000_000_000);
+        assert_eq!(hour(at(0, 0), 500_001, -4_000_000_001).refusal, 5);
     }
 
     #[test]
@@ -484,7 +514,8 @@ mod tests {
         unpriced[4] = 2;
         assert_eq!(result(&[unpriced, RIGHT, bad, bad], 1), (7, 2));
         assert_eq!(result(&[RIGHT, unpriced, unpriced], 1), (8, 1));
-        assert_eq!(result(&[RIGHT, unpriced, bad], -1), (6, 0));
+        assert_eq!(result(&[RIGHT, unpriced, bad], -4_000_000_001), (6, 0));
+        assert_eq!(result(&[RIGHT, unpriced, bad], -4_000_000_000), (7, 2));
         assert_eq!(result(&[RIGHT, RIGHT], 1), (0, 0));
     }
 
@@ -494,15 +525,15 @@ mod tests {
         let mut book = at(720, 0);
         book.month_shortfalls = [0; 64];
         book.month_shortfalls[..3].copy_from_slice(&[1, 2, 4]);
-        book.month_surplus = 5;
-        book.year_surplus = 1;
+        book.month_balance = 5;
+        book.year_balance = 1;
         let result = book.month_end(&mut lines);
         assert_eq!((result.fund, result.wants), (5, 7));
         assert_eq!(lines[..4], [1, 1, 3, 0]);
         assert_eq!(result.book.year_shortfalls[..3], [0, 1, 1]);
         assert_eq!(result.book.month_shortfalls, [0; 64]);
-        assert_eq!(result.book.month_surplus, 0);
-        assert_eq!(result.book.year_surplus, 1);
+        assert_eq!(result.book.month_balance, 0);
+        assert_eq!(result.book.year_balance, 1);
         let mut book = result.book;
         book.hours = 8_760;
         book.months = 12;
@@ -510,7 +541,7 @@ mod tests {
         assert_eq!((result.fund, result.wants), (1, 2));
         assert_eq!(lines[..4], [0, 1, 0, 0]);
         assert_eq!(result.book.year_shortfalls[..3], [0, 0, 1]);
-        assert_eq!(result.book.year_surplus, 0);
+        assert_eq!(result.book.year_balance, 0);
     }
 
     /// February 2028 ends after 274 days, February 2100 after 273.
@@ -570,7 +601,7 @@ mod tests {
             for book in [at_in(year, 0, 0), at_in(year, 720, 0), ended, spoiled] {
                 let lines = &mut [7; 63];
                 let results = [
-                    hour(book, 500_001, -1),
+                    hour(book, 500_001, i64::MIN),
                     book.month_end(lines),
                     book.year_end(lines),
                 ];

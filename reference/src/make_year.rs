@@ -3,7 +3,8 @@
 //!
 //! An odd seed gives a year with long funds over all, an even one a poor year;
 //! months 0, 2, 4 and so on are short and the others long, so that month ends
-//! and the year end pay.
+//! and the year end pay. No hour collects less than nothing. What a seed draws stays as
+//! it is: the tests know what some of these years print by its checksum.
 
 use std::fs::{create_dir_all, File};
 use std::io::{self, BufWriter, Write};

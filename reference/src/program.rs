@@ -109,7 +109,7 @@ mod tests {
     fn refusals_stop() {
         assert_eq!(printed(None, &hour(0)), "R 4\n");
         assert_eq!(printed(Some(&RIGHTS[..31]), &hour(0)), "R 4\n");
-        assert_eq!(printed(Some(&RIGHTS), &hour(-1)), "R 6\n");
+        assert_eq!(printed(Some(&RIGHTS), &hour(-4_000_000_001)), "R 6\n");
         assert_eq!(printed(Some(&RIGHTS), &hour(0)[..9]), "R 4\n");
         assert_eq!(printed(Some(&RIGHTS), &[]), "F 0 0\n");
         let mut input = hour(6_000);
@@ -122,13 +122,46 @@ mod tests {
     fn refusals_are_named() {
         let file = sentence(None, &hour(0));
         assert_eq!(file, "Rights file is refused: 4, wrong length.\n");
-        let amount = sentence(Some(&RIGHTS), &[hour(0), hour(-1)].concat());
+        let amount = sentence(Some(&RIGHTS), &[hour(0), hour(i64::MIN)].concat());
         assert_eq!(amount, "Hour 1 is refused: 6, wild amount.\n");
         let broken = sentence(Some(&RIGHTS), &hour(0).repeat(3)[..3 * HOUR_BYTES - 1]);
         assert_eq!(broken, "Hour 2 is refused: 4, wrong length.\n");
         let bad = sentence(Some(&[RIGHTS, [0; 32]].concat()), &hour(0));
         assert_eq!(bad, "Hour 0 is refused: 7, bad right, record 2.\n");
         assert_eq!(sentence(Some(&RIGHTS), &hour(0)), "");
+    }
+
+    /// Owner 0 wants 10,000, and owner 1 is charged 2,500.
+    #[test]
+    fn a_negative_amount() {
+        let input = [hour(-2_501), hour(-2_500), hour(-2_499)].concat();
+        let expected = "H 0 1 -2500\nH 1 1 -2500\nH 2 0 1\nH 2 1 -2500\nF -1 0\n";
+        assert_eq!(printed(Some(&RIGHTS), &input), expected);
+        let least = printed(Some(&RIGHTS), &hour(-4_000_000_000));
+        assert_eq!(least, "H 0 1 -2500\nF -3999997500 0\n");
+        let none = printed(Some(&[]), &hour(-7).repeat(721));
+        assert_eq!(none, "F -7 -5040\n");
+    }
+
+    /// In each hour of June F is -1; in all others, but for the last, all is paid. The
+    /// last one's rest makes up for none of June, for all of it, or for one cent less or
+    /// more.
+    #[test]
+    fn a_year_with_a_month_below_0() {
+        let year = |last: i64| {
+            let amount = |number| match number {
+                0..720 => -2_501,
+                8_759 => last,
+                _ => 7_500,
+            };
+            let input: Vec<u8> = (0..8_760).flat_map(|number| hour(amount(number))).collect();
+            printed(Some(&RIGHTS), &input)
+        };
+        // Owner 0 is still short of 10,000 for each hour of June.
+        assert!(year(7_499).ends_with("H 8759 0 9999\nH 8759 1 -2500\nF 0 -720\n"));
+        assert!(year(7_500 + 719).ends_with("H 8759 1 -2500\nF 0 -1\n"));
+        assert!(year(7_500 + 720).ends_with("H 8759 1 -2500\nF 0 0\n"));
+        assert!(year(7_500 + 721).ends_with("H 8759 1 -2500\nY 0 0 1\nF 0 0\n"));
     }
 
     #[test]

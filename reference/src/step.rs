@@ -112,12 +112,12 @@ pub fn step(book: Book, rights: &[u8], block: &[u8]) -> Step {
 }
 
 /// "last an F, month surplus, year surplus. A refusal prints R and its number,
-/// no F".
+/// no F". The surpluses are balances now, with a minus sign where they are negative.
 pub fn last_line(refusal: u64, book: &Book) -> String {
     if refusal != ACCEPTED {
         return format!("R {refusal}\n");
     }
-    format!("F {} {}\n", book.month_surplus, book.year_surplus)
+    format!("F {} {}\n", book.month_balance, book.year_balance)
 }
 
 #[cfg(test)]
@@ -131,7 +131,7 @@ mod tests {
     fn last_hour() -> (Book, Vec<u8>) {
         let mut book = Book::fresh(2_025);
         (book.hours, book.months) = (8_759, 11);
-        (book.month_surplus, book.year_surplus) = (2, 9);
+        (book.month_balance, book.year_balance) = (2, 9);
         let mut block = Vec::from(4i64.to_le_bytes());
         block.extend(0i32.to_le_bytes());
         block.extend(7i32.to_le_bytes());
@@ -148,6 +148,37 @@ mod tests {
         assert!(step.book.ended);
         assert_eq!(last_line(0, &step.book), "F 0 8\n");
         assert_eq!(last_line(7, &step.book), "R 7\n");
+    }
+
+    /// The hour's F is -5 and the month's -3; the year's is 6.
+    #[test]
+    fn an_hour_and_a_month_end_that_pay_nobody() {
+        let (book, mut block) = last_hour();
+        block[..8].copy_from_slice(&(-5i64).to_le_bytes());
+        let step = step(book, &RIGHT, &block);
+        assert_eq!(step.text, "Y 0 5 6\n");
+        assert!(step.book.ended);
+        assert_eq!(step.book.year_shortfalls[5], 1);
+        assert_eq!(last_line(0, &step.book), "F 0 0\n");
+    }
+
+    #[test]
+    fn the_last_line_has_the_signs() {
+        let line = |month_balance, year_balance| {
+            let book = Book {
+                month_balance,
+                year_balance,
+                ..Book::fresh(2_025)
+            };
+            last_line(0, &book)
+        };
+        assert_eq!(line(-1, 0), "F -1 0\n");
+        assert_eq!(line(0, -4_000_000_000), "F 0 -4000000000\n");
+        assert_eq!(line(-30, 205), "F -30 205\n");
+        assert_eq!(line(1_500, -9), "F 1500 -9\n");
+        assert_eq!(line(-7, -10), "F -7 -10\n");
+        let lowest = format!("F {} {}\n", "-9223372036854775808", i64::MAX);
+        assert_eq!(line(i64::MIN, i64::MAX), lowest);
     }
 
     #[test]

@@ -15,10 +15,10 @@ use crate::target::{self, Asked};
 pub const COUNTS: usize = 4;
 /// "owner i's month shortfall at 2 * i, its year shortfall at 2 * i + 1".
 pub const SHORTFALLS: usize = 128;
-/// "words of a book: the month surplus, the year surplus".
-pub const SURPLUSES: usize = 2;
-/// "words of an event's report: the record number of 7 and 8, F (the fund), D
-/// (the sum of the wants)".
+/// "words of a book: the month balance, the year balance; either sign".
+pub const BALANCES: usize = 2;
+/// "words of an event's report: the record number of 7 and 8, F (the fund, of either
+/// sign), D (the sum of the wants)".
 pub const SETTLED: usize = 3;
 /// "words of a target call's and a row call's report: the record number of 7 and
 /// 8".
@@ -53,7 +53,7 @@ pub const SENTENCE_ROOM: usize = 112;
 pub struct BookWords<'a> {
     pub counts: &'a mut [u64],
     pub shortfalls: &'a mut [u64],
-    pub surpluses: &'a mut [i64],
+    pub balances: &'a mut [i64],
 }
 
 /// "A text is lent bytes and their end, any number".
@@ -84,9 +84,9 @@ pub enum Event<'a> {
     YearEnd,
 }
 
-/// A surplus as a word; no event makes one that does not fit.
-fn signed(cents: u64) -> i64 {
-    i64::try_from(cents).unwrap_or(i64::MAX)
+/// A record number or D as a signed word; no event makes one that does not fit.
+fn signed(word: u64) -> i64 {
+    i64::try_from(word).unwrap_or(i64::MAX)
 }
 
 pub fn counts_of(book: &Book) -> [u64; COUNTS] {
@@ -100,8 +100,8 @@ pub fn shortfalls_of(book: &Book) -> [u64; SHORTFALLS] {
     })
 }
 
-pub fn surpluses_of(book: &Book) -> [i64; SURPLUSES] {
-    [book.month_surplus, book.year_surplus].map(signed)
+pub fn balances_of(book: &Book) -> [i64; BALANCES] {
+    [book.month_balance, book.year_balance]
 }
 
 impl BookWords<'_> {
@@ -109,12 +109,12 @@ impl BookWords<'_> {
     fn wrong_number(&self) -> bool {
         self.counts.len() != COUNTS
             || self.shortfalls.len() != SHORTFALLS
-            || self.surpluses.len() != SURPLUSES
+            || self.balances.len() != BALANCES
     }
 
     /// What is looked at before the call itself: "In an event and in a step 4 comes
     /// first for counts of another number of words, which have no year to look at; then
-    /// 15 for the year, their fourth word; then 4 for shortfalls or surpluses of another
+    /// 15 for the year, their fourth word; then 4 for shortfalls or balances of another
     /// number of words; then 4 for a report of another number of words; then 1".
     fn refusal(&self, wrong_report: bool) -> u64 {
         let [_, _, _, year] = *self.counts else {
@@ -128,12 +128,13 @@ impl BookWords<'_> {
         ])
     }
 
-    /// "1, a spoiled book, for a mark that is neither 0 nor 1 or a surplus below 0".
+    /// "1, a spoiled book, for a mark that is neither 0 nor 1".
     fn spoiled(&self) -> bool {
-        self.counts[2] > 1 || self.surpluses.iter().any(|surplus| *surplus < 0)
+        self.counts[2] > 1
     }
 
-    /// The book that the words stand for, which are not spoiled.
+    /// The book that the words stand for, which are not spoiled: "Any two balances are
+    /// those of a book".
     fn book(&self) -> Book {
         Book {
             hours: self.counts[0],
@@ -142,15 +143,15 @@ impl BookWords<'_> {
             year: self.counts[3],
             month_shortfalls: std::array::from_fn(|owner| self.shortfalls[2 * owner]),
             year_shortfalls: std::array::from_fn(|owner| self.shortfalls[2 * owner + 1]),
-            month_surplus: self.surpluses[0].unsigned_abs(),
-            year_surplus: self.surpluses[1].unsigned_abs(),
+            month_balance: self.balances[0],
+            year_balance: self.balances[1],
         }
     }
 
     fn write(&mut self, book: &Book) {
         self.counts.copy_from_slice(&counts_of(book));
         self.shortfalls.copy_from_slice(&shortfalls_of(book));
-        self.surpluses.copy_from_slice(&surpluses_of(book));
+        self.balances.copy_from_slice(&balances_of(book));
     }
 
     /// "Writes a fresh book of the year, all zeros but for the year, over any words. A
@@ -178,8 +179,8 @@ impl BookWords<'_> {
             return refused(refusal, report);
         }
         let result = run(event, self.book(), lines);
-        let words = [result.record, result.fund, result.wants];
-        report.copy_from_slice(&words.map(signed));
+        let words = [signed(result.record), result.fund, signed(result.wants)];
+        report.copy_from_slice(&words);
         if result.refusal == ACCEPTED {
             self.write(&result.book);
         }
@@ -222,8 +223,8 @@ impl BookWords<'_> {
         refusal
     }
 
-    /// A closing: "The last line of a statement .. The book is only read", and its
-    /// year is not looked at.
+    /// A closing: "The last line of a statement .. The book is only read": its year and
+    /// the bounds of its balances "are not looked at".
     pub fn closing(&self, refusal: u8, mut text: LentText, report: &mut [u64]) -> u64 {
         let unmoved = [0, text.end];
         if report.len() == CLOSED {
@@ -400,11 +401,13 @@ mod tests {
     use super::*;
     use crate::target::asked;
 
+    mod balances;
+
     /// The words of a book at its first month end.
     struct Words {
         counts: Vec<u64>,
         shortfalls: Vec<u64>,
-        surpluses: Vec<i64>,
+        balances: Vec<i64>,
         report: Vec<i64>,
     }
 
@@ -414,21 +417,28 @@ mod tests {
         Words {
             counts: vec![720, 0, 0, 2_025],
             shortfalls,
-            surpluses: vec![5, 0],
+            balances: vec![5, 0],
             report: vec![9; SETTLED],
         }
     }
 
-    /// A month end on such words, some of them changed: the refusal and the report.
-    fn month_end(change: impl FnOnce(&mut Words)) -> (u64, Vec<i64>) {
+    /// A month end on such words, some of them changed: the refusal and the words
+    /// after it.
+    fn closed(change: impl FnOnce(&mut Words)) -> (u64, Words) {
         let mut words = at_a_month_end();
         change(&mut words);
         let mut book = BookWords {
             counts: &mut words.counts,
             shortfalls: &mut words.shortfalls,
-            surpluses: &mut words.surpluses,
+            balances: &mut words.balances,
         };
         let refusal = book.settle(Event::MonthEnd, &mut [0; 64], &mut words.report);
+        (refusal, words)
+    }
+
+    /// The refusal and the report of one that pays 5 of 7 if it is accepted.
+    fn month_end(change: impl FnOnce(&mut Words)) -> (u64, Vec<i64>) {
+        let (refusal, words) = closed(change);
         let paid = [0, 3, 0, 2];
         let expected = if refusal == 0 { paid } else { [7, 1, 0, 2] };
         assert_eq!(words.shortfalls[..4], expected);
@@ -446,10 +456,9 @@ mod tests {
         assert_eq!(month_end(|words| words.counts[3] = 2_099), accepted);
         assert_eq!(month_end(|words| words.counts[2] = 1), refused_with(1));
         assert_eq!(month_end(|words| words.counts[2] = 2), refused_with(1));
-        assert_eq!(month_end(|words| words.surpluses[1] = -1), refused_with(1));
         let both = month_end(|words| {
             words.counts.push(0);
-            words.surpluses[0] = -1;
+            words.counts[2] = 2;
         });
         assert_eq!(both, refused_with(4));
         let both = month_end(|words| {
@@ -471,19 +480,19 @@ mod tests {
             let outside = |change: fn(&mut Words)| {
                 month_end(|words| {
                     (words.counts[2], words.counts[3]) = (2, year);
-                    words.surpluses[0] = -1;
+                    words.balances[0] = i64::MIN;
                     change(words);
                 })
             };
             assert_eq!(outside(|_| {}), refused_with(15));
             assert_eq!(outside(|words| words.shortfalls.push(0)), refused_with(15));
-            assert_eq!(outside(|words| words.surpluses.clear()), refused_with(15));
+            assert_eq!(outside(|words| words.balances.clear()), refused_with(15));
             assert_eq!(outside(|words| words.report.push(9)), (15, vec![9; 4]));
             assert_eq!(outside(|words| words.counts.push(0)), refused_with(4));
             assert_eq!(outside(|words| words.counts.truncate(3)), refused_with(4));
             let all = outside(|words| {
                 words.counts.clear();
-                words.surpluses.clear();
+                words.balances.clear();
                 words.report.clear();
             });
             assert_eq!(all, (4, vec![]));
@@ -496,7 +505,7 @@ mod tests {
         let mut book = BookWords {
             counts: &mut counts,
             shortfalls: &mut [9; SHORTFALLS],
-            surpluses: &mut [9; SURPLUSES],
+            balances: &mut [9; BALANCES],
         };
         let refusal = book.open(year);
         (refusal, counts)
@@ -533,7 +542,7 @@ mod tests {
         let mut words = BookWords {
             counts,
             shortfalls: &mut vec![0; shortfalls],
-            surpluses: &mut [5, 0],
+            balances: &mut [5, 0],
         };
         let bytes = &mut vec![7; bytes];
         let mut report = [9; STEPPED];
@@ -588,7 +597,7 @@ mod tests {
         let mut words = BookWords {
             counts: &mut [9, 0, 0, 2_025],
             shortfalls: &mut [0; SHORTFALLS],
-            surpluses: &mut [5, 0],
+            balances: &mut [5, 0],
         };
         let mut stepped = [9; STEPPED];
         let bytes = &mut [0; STEP_ROOM];
@@ -703,7 +712,7 @@ mod tests {
         let words = BookWords {
             counts: &mut [9, 0, 0, 2_100],
             shortfalls: &mut [0; SHORTFALLS],
-            surpluses: &mut [5, 0],
+            balances: &mut [5, 0],
         };
         let mut bytes = [b'-'; CLOSING_ROOM + 2];
         let mut report = [9; CLOSED];

@@ -1,4 +1,5 @@
 pub mod Dates
 pub mod Sentences
+pub mod SignedFunds
 pub mod Table
 pub mod WrittenOut

@@ -9,7 +9,7 @@ mod sums;
 
 pub use refusal::Refusal;
 pub use signs::{negative_part, positive_part};
-pub use sums::{capped_total, is_sum_above, plus_capped};
+pub use sums::{capped_total, plus_capped};
 
 // The owners: lines, wants and cells have a place for each.
 pub const OWNERS: usize = 64;

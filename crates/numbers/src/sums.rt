@@ -1,13 +1,6 @@
 // Sums of any amounts. The amounts could wrap a 64-bit sum, so that a capped one stops at its cap.
-ghost use Rattle.std.specs.Prelude.{◌+◌, min, ◌≡◌, ltb};
+ghost use Rattle.std.specs.Prelude.{◌+◌, min, ◌≡◌};
 ghost use Rattle.numbers.specs.Lists.{total};
-
-// Whether two amounts are together above a limit.
-pub fn is_sum_above(one: u64, other: u64, limit: u64) -> bool
-    ensures { result ≡ ltb limit (one + other) }
-{
-    one.checked_add(other).is_none_or(|sum| limit < sum)
-}
 
 // A sum and one amount more, or the cap where that is less.
 pub fn plus_capped(cap: u64, sum: u64, amount: u64) -> u64

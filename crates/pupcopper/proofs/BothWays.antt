@@ -9,16 +9,13 @@ use native.Mathlib.Decide.{ℕ_discrete}
 use native.Mathlib.Omega.{arith}
 use lib.Dec.{eqb}
 use lib.ListN.{length, get_or}
-use lib.IntN.{ℤ, pos, negsuc}
-use lib.Signed.{lt_z}
+use lib.IntN.{pos}
 use borrow.Author.Tests.{ltb-false, eq-eqb, ne_eqb}
 use Rattle.numbers.specs.Limits.{owners}
 use Rattle.numbers.specs.Lists.{list_below}
-use Rattle.numbers.specs.Signs.{positive}
-use Rattle.numbers.proofs.Booleans.{neither_true}
 use Rattle.numbers.proofs.Counts.{get_or_list_below, list_of_elements, list_below_ext}
 use Rattle.settlement.specs.declared.Book.{Book}
-use Rattle.pupcopper.specs.BookWords.{BookWords, words_in, shortfall_words, counts_of, cell_at, by_owner, surpluses_of, words_of, surplus_in, cells_from, book_from, mark_in, is_wrong_count, is_wrong_mark, is_overdrawn}
+use Rattle.pupcopper.specs.BookWords.{BookWords, words_in, shortfall_words, counts_of, cell_at, by_owner, balances_of, words_of, cells_from, book_from, mark_in, is_wrong_count, is_wrong_mark}
 use Rattle.pupcopper.proofs.Cells.{month_cell, year_cell}
 use Rattle.pupcopper.proofs.WordRows.{Long, long}
 
@@ -50,7 +47,7 @@ mark_back false = refl
 
 -- a book with a cell for each owner
 pub book_back : (book : Book) → length book.monthshort ≡ owners → length book.yearshort ≡ owners → book_from (words_of book) ≡ book
-unfolding book_from counts_of surpluses_of
+unfolding book_from counts_of balances_of
 book_back book months years =
     λ i.
     record {
@@ -60,8 +57,8 @@ book_back book months years =
       ended = mark_back book.ended i;
       monthshort = month_back book.monthshort book.yearshort months i;
       yearshort = year_back book.monthshort book.yearshort years i;
-      monthsurplus = book.monthsurplus;
-      yearsurplus = book.yearsurplus;
+      monthbalance = book.monthbalance;
+      yearbalance = book.yearbalance;
     }
 
 -- ---- from words to a book and back
@@ -88,16 +85,12 @@ mark_kept zero small = refl
 mark_kept (suc zero) small = refl
 mark_kept (suc (suc n)) small = absurd (omega arith)
 
-surplus_kept : (z : ℤ) → lt_z z (pos 0) ≡ false → pos (positive z) ≡ z
-surplus_kept (pos n) good = refl
-surplus_kept (negsuc n) good = cc
-
--- words of the right number, with a mark of 0 or 1 and no negative surplus
-pub words_back : (words : BookWords) → is_wrong_count words ≡ false → is_wrong_mark words ≡ false → is_overdrawn words ≡ false
+-- words of the right number, with a mark of 0 or 1
+pub words_back : (words : BookWords) → is_wrong_count words ≡ false → is_wrong_mark words ≡ false
     → words_of (book_from words) ≡ words
-unfolding book_from counts_of surpluses_of by_owner list_below
-words_back words counted marked drawn =
-    λ i. words_in (counts i) (cells i) (surpluses i)
+unfolding book_from counts_of balances_of by_owner list_below
+words_back words counted marked =
+    λ i. words_in (counts i) (cells i) (balances i)
   where
     sized : Long words
     sized = long words counted
@@ -112,8 +105,5 @@ words_back words counted marked drawn =
         list_below_ext _ (λ place. get_or words.shortfalls place 0) shortfall_words (cell_back words.shortfalls)
         ∙ list_of_elements words.shortfalls 0 sized.shortfalls
 
-    surpluses : surpluses_of (book_from words) ≡ words.surpluses
-    surpluses =
-        let good = neither_true (lt_z (surplus_in words 0) (pos 0)) (lt_z (surplus_in words 1) (pos 0)) drawn in
-        (λ i. surplus_kept (surplus_in words 0) good.0 i ∷ surplus_kept (surplus_in words 1) good.1 i ∷ [])
-        ∙ list_of_elements words.surpluses (pos 0) sized.surpluses
+    balances : balances_of (book_from words) ≡ words.balances
+    balances = list_of_elements words.balances (pos 0) sized.balances

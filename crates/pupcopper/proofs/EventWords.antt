@@ -1,7 +1,7 @@
 -- An event over the words of a book: refused by its words, or the event of the book that they stand for.
 -- Assumes nothing.
 use Prim.Native.Nat.{ℕ, ◌^◌, ◌<◌, ◌≤◌}
-use mathlib.Core.Path.{◌≡◌, refl, sym, ap, subst, ◌∙◌}
+use mathlib.Core.Path.{◌≡◌, refl, sym, ap, ◌∙◌}
 use mathlib.Core.Bool.{cond}
 use mathlib.Core.List.{List}
 use native.Mathlib.Decide.{ℕ_discrete}
@@ -10,17 +10,17 @@ use lib.ListN.{length}
 use lib.IntN.{ℤ}
 use Rattle.numbers.specs.Refusals.{answer_by}
 use Rattle.numbers.proofs.Refusals.{answer_accepted, answer_refused}
-use Rattle.std.specs.Prelude.{Result, Ok, Err}
+use Rattle.std.specs.Prelude.{pos, Result, Ok, Err}
 use Rattle.numbers.specs.declared.refusal.Refusal.{Refusal}
 use Rattle.settlement.specs.declared.Book.{Book}
 use Rattle.settlement.specs.declared.Funding.{Funding}
 use Rattle.settlement.specs.declared.Settled.{Settled as Handed}
 use Rattle.settlement.specs.Events.{hour_call, month_end_call, year_end_call, Settled, in_numbers, result_of, Call, fund, demand, book_after, lines, refusal, record_of, Answered}
-use Rattle.settlement.proofs.Amounts.{small_amounts, record_within}
+use Rattle.settlement.proofs.Amounts.{demand_small, record_within}
 use Rattle.settlement.proofs.Refusing.{record_other, gives_number, gives_record, gives_fund, gives_demand, gives_book_lem}
 use Rattle.pupcopper.specs.BookWords.{BookWords, words_of, book_from, year_in}
 use Rattle.pupcopper.specs.Calls.{is_wrong_report, settled_report, settled_words, words_refusal, event_refusal, Settles}
-use Rattle.pupcopper.specs.InnerContracts.{bytes_lent, SurplusesFit, ResultFits}
+use Rattle.pupcopper.specs.InnerContracts.{bytes_lent, ResultFits}
 use Rattle.pupcopper.proofs.WordRows.{words_not_7, words_not_8}
 use mathlib.Core.Bool.{true}
 
@@ -48,7 +48,7 @@ module _ (call : Call) (words : BookWords) (report lent : List ℤ) where
   -- ---- refused by its words
 
   pub refused_event : (number : ℕ) (report_after : List ℤ) → number ≡ own → (number ≡ 0 → ⊥)
-      → report_after ≡ cond (is_wrong_report settled_words (length report)) report (settled_report 0 0 0)
+      → report_after ≡ cond (is_wrong_report settled_words (length report)) report (settled_report 0 (pos 0) 0)
       → Settles call words report lent number words report_after lent
   unfolding event_refusal
   refused_event number report_after is some written =
@@ -65,11 +65,11 @@ module _ (call : Call) (words : BookWords) (report lent : List ℤ) where
       not_8 : number ≡ 8 → ⊥
       not_8 e = words_not_8 true settled_words words (length report) (sym is ∙ e)
 
-      zeros : settled_report 0 0 0 ≡ settled_report (record_of call (year_in words) number) (answer_by number (fund call book) 0) (answer_by number (demand call book) 0)
+      zeros : settled_report 0 (pos 0) 0 ≡ settled_report (record_of call (year_in words) number) (answer_by number (fund call book) (pos 0)) (answer_by number (demand call book) 0)
       zeros =
           λ i.
           settled_report (sym (record_other call (year_in words) number not_7 not_8) i)
-          (sym (answer_refused number (fund call book) 0 some) i) (sym (answer_refused number (demand call book) 0 some) i)
+          (sym (answer_refused number (fund call book) (pos 0) some) i) (sym (answer_refused number (demand call book) 0 some) i)
 
   -- ---- the event of the book
 
@@ -77,32 +77,20 @@ module _ (call : Call) (words : BookWords) (report lent : List ℤ) where
     abbrev own_number : ℕ
     own_number = refusal call book (length lent)
 
-    fund_fits : (accepted : Dec (own_number ≡ 0)) → result.fund < 2 ^ 63
-    fund_fits (yes z) =
-        omega (arith, (small_amounts call book (length lent) z).fund_most, gives_fund answered ∙ answer_accepted own_number (fund call book) 0 z)
-    fund_fits (no some) = omega (arith, gives_fund answered ∙ answer_refused own_number (fund call book) 0 some)
-
     demand_fits : (accepted : Dec (own_number ≡ 0)) → result.demand < 2 ^ 63
     demand_fits (yes z) =
         omega
-        (arith, (small_amounts call book (length lent) z).demand_most, gives_demand answered ∙ answer_accepted own_number (demand call book) 0 z)
+        (arith, demand_small call book (length lent) z, gives_demand answered ∙ answer_accepted own_number (demand call book) 0 z)
     demand_fits (no some) = omega (arith, gives_demand answered ∙ answer_refused own_number (demand call book) 0 some)
 
     book_after_lem : own_number ≡ 0 → result.book ≡ book_after call book
     book_after_lem z = gives_book_lem answered ∙ answer_accepted own_number (book_after call book) book z
 
-    surpluses_fit : own_number ≡ 0 → SurplusesFit result.book
-    surpluses_fit z =
-        let small = (small_amounts call book (length lent) z).surplus_most in
-        subst (λ (b : Book). SurplusesFit b) (sym (book_after_lem z)) (record { month = omega (arith, small); year = omega (arith, small) })
-
     pub result_fits : bytes_lent call < 2 ^ 63 → ResultFits result
     result_fits few =
         record {
           named = omega (arith, gives_record answered, record_lent call book.year own_number);
-          paid_from = fund_fits (ℕ_discrete own_number 0);
           wanted = demand_fits (ℕ_discrete own_number 0);
-          kept = λ z. surpluses_fit (sym (gives_number answered) ∙ z);
         }
 
     pub settled_event : (number : ℕ) (words_after : BookWords) (report_after : List ℤ) → own ≡ 0 → number ≡ result.refusal
@@ -116,7 +104,7 @@ module _ (call : Call) (words : BookWords) (report lent : List ℤ) where
           reports =
               written
               ∙ ap (cond (is_wrong_report settled_words (length report)) report)
-              (λ i. settled_report ((gives_record answered ∙ ap (record_of call (year_in words)) (sym same)) i) ((gives_fund answered ∙ by_number (fund call book) 0) i) ((gives_demand answered ∙ by_number (demand call book) 0) i));
+              (λ i. settled_report ((gives_record answered ∙ ap (record_of call (year_in words)) (sym same)) i) ((gives_fund answered ∙ by_number (fund call book) (pos 0)) i) ((gives_demand answered ∙ by_number (demand call book) 0) i));
           gives_book = kept ∙ words_of_lem (ℕ_discrete number 0);
           writes_lines = answered.writes ∙ by_number (lines call book) lent;
         }

@@ -1,6 +1,6 @@
 -- A host's list of events makes the ledger of its calls, so that the claim holds of it.
 -- Assumes nothing.
-use Prim.Native.Nat.{ℕ, zero-le}
+use Prim.Native.Nat.{ℕ}
 use mathlib.Core.Path.{◌≡◌, refl, sym, ap, subst, ◌∙◌}
 use mathlib.Core.Bool.{Bool, true, false, cond}
 use mathlib.Core.List.{List, [], ◌∷◌, map}
@@ -8,8 +8,8 @@ use native.Mathlib.Decide.{ℕ_discrete}
 use native.Mathlib.Omega.{arith}
 use lib.Dec.{ltb}
 use lib.ListN.{length}
-use lib.IntN.{ℤ}
-use borrow.Author.Tests.{le-ltb}
+use lib.IntN.{ℤ, pos}
+use Rattle.numbers.specs.Signs.{positive}
 use Rattle.numbers.specs.Limits.{owners}
 use Rattle.numbers.specs.Refusals.{answer_by}
 use Rattle.numbers.proofs.Counts.{length_list_below}
@@ -26,7 +26,7 @@ use Rattle.settlement.proofs.OneLedger.{book_at_start, book_at_entry, only_ledge
 use Rattle.settlement.proofs.Kept.{kept_fresh}
 use Rattle.settlement.proofs.SameCells.{long_after}
 use Rattle.settlement.proofs.Shares.{IsLong}
-use Rattle.pupcopper.specs.BookWords.{BookWords, year_in, shortfall_words, counts_of, by_owner, surpluses_of, words_of, cells_from, book_from, is_no_book, is_wrong_count, is_wrong_mark, is_overdrawn}
+use Rattle.pupcopper.specs.BookWords.{BookWords, year_in, shortfall_words, counts_of, by_owner, balances_of, words_of, cells_from, book_from, is_no_book, is_wrong_count, is_wrong_mark}
 use Rattle.pupcopper.specs.Calls.{number_of, is_wrong_report, settled_words, settled_report, event_refusal, words_opened, Settles}
 use Rattle.pupcopper.specs.HostLedger.{HostEntry, words_at, IsHostList, word_in, entry_of, host_ledger}
 use Rattle.pupcopper.proofs.BothWays.{book_back}
@@ -36,16 +36,14 @@ use Rattle.pupcopper.proofs.WordRows.{dated_words, opened_written, wrong_report,
 record Good (words : BookWords) : Type 0 where
   pub counted : is_wrong_count words ≡ false
   pub marked : is_wrong_mark words ≡ false
-  pub drawn : is_overdrawn words ≡ false
 
 -- those of any book are
 words_good : (book : Book) → Good (words_of book)
-unfolding counts_of by_owner surpluses_of
+unfolding counts_of by_owner balances_of
 words_good book =
     record {
       counted = ap (λ (cells : ℕ). is_no_book 4 cells 2) (length_list_below _ shortfall_words);
       marked = by_mark book.ended;
-      drawn = rw (le-ltb book.monthsurplus 0 zero-le, le-ltb book.yearsurplus 0 zero-le);
     }
   where
     by_mark : (ended : Bool) → ltb 1 (cond ended 1 0) ≡ false
@@ -84,7 +82,7 @@ module _ (entry : HostEntry) (words : BookWords) (good : Good words)
       unfolding event_refusal
       number_is =
           settles.number
-          ∙ answer_accepted _ _ _ (sym (good_words true settled_words words (length entry.report) (dated_words words good.counted) within good.counted fits good.marked good.drawn))
+          ∙ answer_accepted _ _ _ (sym (good_words true settled_words words (length entry.report) (dated_words words good.counted) within good.counted fits good.marked))
 
       by_number : {A : Type 0} (accepted refused : A)
           → answer_by number accepted refused ≡ answer_by (refusal call book (length entry.lent)) accepted refused
@@ -104,14 +102,14 @@ module _ (entry : HostEntry) (words : BookWords) (good : Good words)
               ∙ sym (answer_refused number (book_after call book) book some)
 
       -- the report's three words
-      report_is : entry.reported ≡ settled_report (record_of call (year_in words) number) (answer_by number (fund call book) 0) (answer_by number (demand call book) 0)
+      report_is : entry.reported ≡ settled_report (record_of call (year_in words) number) (answer_by number (fund call book) (pos 0)) (answer_by number (demand call book) 0)
       report_is =
           settles.reports
-          ∙ ap (λ (wrong : Bool). cond wrong entry.report (settled_report (record_of call (year_in words) number) (answer_by number (fund call book) 0) (answer_by number (demand call book) 0))) fits
+          ∙ ap (λ (wrong : Bool). cond wrong entry.report (settled_report (record_of call (year_in words) number) (answer_by number (fund call book) (pos 0)) (answer_by number (demand call book) 0))) fits
 
       word_is : (place : ℕ)
           → word_in entry.reported place
-          ≡ word_in (settled_report (record_of call (year_in words) number) (answer_by number (fund call book) 0) (answer_by number (demand call book) 0)) place
+          ≡ word_in (settled_report (record_of call (year_in words) number) (answer_by number (fund call book) (pos 0)) (answer_by number (demand call book) 0)) place
       word_is place = ap (λ (r : List ℤ). word_in r place) report_is
 
       -- the call is an entry on the book that the words stand for
@@ -123,9 +121,9 @@ module _ (entry : HostEntry) (words : BookWords) (good : Good words)
                 λ i.
                 record {
                   refusal = number_is i;
-                  faulty = (word_is 0 ∙ ap (record_of call (year_in words)) number_is) i;
-                  fund = (word_is 1 ∙ by_number (fund call book) 0) i;
-                  demand = (word_is 2 ∙ by_number (demand call book) 0) i;
+                  faulty = (ap positive (word_is 0) ∙ ap (record_of call (year_in words)) number_is) i;
+                  fund = (word_is 1 ∙ by_number (fund call book) (pos 0)) i;
+                  demand = (ap positive (word_is 2) ∙ by_number (demand call book) 0) i;
                   book = (book_is ∙ by_number (book_after call book) book) i;
                 };
             writes = settles.writes_lines ∙ by_number (lines call book) entry.lent;

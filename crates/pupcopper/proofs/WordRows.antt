@@ -16,31 +16,30 @@ use Rattle.numbers.specs.Refusals.{Row, ◌if◌, first_refusal, answered, numbe
 use Rattle.numbers.proofs.Booleans.{both_true}
 use Rattle.numbers.proofs.Refusals.{refusal_none, refusal_here, refusal_next, refusal_clear, refusal_never, answered_err, answered_ok, number_back, number_answered, IsNumber, is_number}
 use Rattle.settlement.specs.declared.Book.{Book}
-use Rattle.pupcopper.specs.BookWords.{BookWords, words_of, book_from, year_in, has_no_year, count_words, shortfall_words, surplus_words, is_wrong_count, is_wrong_mark, is_overdrawn}
+use Rattle.pupcopper.specs.BookWords.{BookWords, words_of, book_from, year_in, has_no_year, count_words, shortfall_words, balance_words, is_wrong_count, is_wrong_mark}
 use Rattle.pupcopper.specs.Calls.{is_wrong_report, words_refusal, open_refusal, words_opened}
 use Rattle.pupcopper.proofs.ReportWords.{report_fits, report_wrong}
 use Rattle.calendar.specs.Almanac.{is_outside}
 use Rattle.settlement.specs.Book.{year_refusal, opened}
-use Rattle.settlement.proofs.Opening.{opening_accepted, opening_refused, opening_number, opened_empty}
-use Rattle.pupcopper.specs.InnerContracts.{SurplusesFit}
+use Rattle.settlement.proofs.Opening.{opening_accepted, opening_refused, opening_number}
 
 -- so many words are a book's
 pub record Long (words : BookWords) : Type 0 where
   pub counts : length words.counts ≡ count_words
   pub shortfalls : length words.shortfalls ≡ shortfall_words
-  pub surpluses : length words.surpluses ≡ surplus_words
+  pub balances : length words.balances ≡ balance_words
 
 pub long : (words : BookWords) → is_wrong_count words ≡ false → Long words
 long words right =
     let counted = eqb (length words.counts) count_words in
     let celled = eqb (length words.shortfalls) shortfall_words in
-    let summed = eqb (length words.surpluses) surplus_words in
+    let summed = eqb (length words.balances) balance_words in
     let all = both_true (counted && celled) summed (not-false (counted && celled && summed) right) in
     let two = both_true counted celled all.0 in
     record {
       counts = eqb-true _ _ two.0;
       shortfalls = eqb-true _ _ two.1;
-      surpluses = eqb-true _ _ all.1;
+      balances = eqb-true _ _ all.1;
     }
 
 -- and have a year
@@ -68,11 +67,7 @@ module _ (year : ℕ) (words : BookWords) where
   pub opened_written : is_wrong_count words ≡ false → words_of (opened year) ≡ words_opened year words
   opened_written right = rw right
 
--- an opened book can be written as words
-pub opened_fits : (year : ℕ) → SurplusesFit (opened year)
-opened_fits year = record { month = omega (arith, opened_empty year); year = omega (arith, opened_empty year) }
-
-pub ruleset open_laws = (open_wrong, open_right, opened_kept, opened_written, opened_fits, number_answered, opening_number)
+pub ruleset open_laws = (open_wrong, open_right, opened_kept, opened_written, number_answered, opening_number)
 
 -- ---- an event's words, row by row
 
@@ -93,7 +88,6 @@ module _ (dated : Bool) (places : ℕ) (words : BookWords) (report : ℕ) where
           (4 if is_wrong_count words)
           ∷ (4 if is_wrong_report places report)
           ∷ (1 if is_wrong_mark words)
-          ∷ (1 if is_overdrawn words)
           ∷ []
 
       from_later : words_refusal dated places words report ≡ first_refusal later
@@ -111,38 +105,21 @@ module _ (dated : Bool) (places : ℕ) (words : BookWords) (report : ℕ) where
           pub wrong_mark : is_wrong_mark words ≡ true → 1 ≡ words_refusal dated places words report
           wrong_mark wrong = sym (from_later ∙ refusal_next 4 _ right ∙ refusal_next 4 _ fits ∙ refusal_here 1 _ wrong)
 
-          module _ (marked : is_wrong_mark words ≡ false) where
-            pub overdrawn : is_overdrawn words ≡ true → 1 ≡ words_refusal dated places words report
-            overdrawn wrong =
-                sym
-                (from_later
-                ∙ refusal_next 4 _ right
-                ∙ refusal_next 4 _ fits
-                ∙ refusal_next 1 _ marked
-                ∙ refusal_here 1 _ wrong)
-
-            pub good_words : is_overdrawn words ≡ false → 0 ≡ words_refusal dated places words report
-            good_words good =
-                sym
-                (from_later
-                ∙ refusal_next 4 _ right
-                ∙ refusal_next 4 _ fits
-                ∙ refusal_next 1 _ marked
-                ∙ refusal_next 1 _ good
-                ∙ refusal_none)
+          pub good_words : is_wrong_mark words ≡ false → 0 ≡ words_refusal dated places words report
+          good_words good =
+              sym (from_later ∙ refusal_next 4 _ right ∙ refusal_next 4 _ fits ∙ refusal_next 1 _ good ∙ refusal_none)
 
   -- none of them: the words are a book's, and the report has its places
   pub words_clear : words_refusal dated places words report ≡ 0
-      → (is_wrong_count words ≡ false) × (is_wrong_report places report ≡ false) × (is_wrong_mark words ≡ false) × (is_overdrawn words ≡ false)
+      → (is_wrong_count words ≡ false) × (is_wrong_report places report ≡ false) × (is_wrong_mark words ≡ false)
   unfolding words_refusal
   words_clear clear =
       let r1 = refusal_clear 4 (has_no_year words) _ (omega arith) clear in
       let r2 = refusal_clear 15 (dated && is_outside (year_in words)) _ (omega arith) r1.1 in
       let r3 = refusal_clear 4 (is_wrong_count words) _ (omega arith) r2.1 in
       let r4 = refusal_clear 4 (is_wrong_report places report) _ (omega arith) r3.1 in
-      let r5 = refusal_clear 1 (is_wrong_mark words) _ (omega arith) r4.1 in
-      let r6 = refusal_clear 1 (is_overdrawn words) [] (omega arith) r5.1 in
-      (r3.0, r4.0, r5.0, r6.0)
+      let r5 = refusal_clear 1 (is_wrong_mark words) [] (omega arith) r4.1 in
+      (r3.0, r4.0, r5.0)
 
   -- each of their numbers is a refusal's, and none names a record
   pub words_number : IsNumber (words_refusal dated places words report)
@@ -158,7 +135,7 @@ module _ (dated : Bool) (places : ℕ) (words : BookWords) (report : ℕ) where
   words_not_8 is = refusal_never 8 _ (omega arith) refl is
 
 -- row by row, by the tests
-pub ruleset rows = (wrong_counts, wrong_year, wrong_count, wrong_report, wrong_mark, overdrawn, good_words, report_fits, report_wrong, lt-ltb, le-ltb, to_z-of_z)
+pub ruleset rows = (wrong_counts, wrong_year, wrong_count, wrong_report, wrong_mark, good_words, report_fits, report_wrong, lt-ltb, le-ltb, to_z-of_z)
 
 -- what is answered for words that are read from lent slices, told of the words in the slices
 module _ (dated : Bool) (places : ℕ) (words : BookWords) (report : ℕ) {read : BookWords} (same : read ≡ words) where

@@ -1,20 +1,18 @@
--- A book as the words that a host keeps: counts and mark, shortfalls by owner, surpluses; in both directions.
+-- A book as the words that a host keeps: counts and mark, shortfalls by owner, balances; in both directions.
 -- Assumes nothing.
-use Rattle.std.specs.Prelude.{ℕ, ◌+◌, ◌*◌, ◌/◌, ◌%◌, Bool, cond, not, ◌&&◌, ◌||◌, List, [], ◌∷◌, ltb, eqb, length, get_or, ℤ, pos}
-use Rattle.std.specs.Int.Signed.{lt_z}
+use Rattle.std.specs.Prelude.{ℕ, ◌+◌, ◌*◌, ◌/◌, ◌%◌, Bool, cond, not, ◌&&◌, List, [], ◌∷◌, ltb, eqb, length, get_or, ℤ, pos}
 use Rattle.numbers.specs.Limits.{owners}
 use Rattle.numbers.specs.Lists.{list_below}
-use Rattle.numbers.specs.Signs.{positive}
 use Rattle.settlement.specs.declared.Book.{Book}
 
 -- the three slices of a book
 pub record BookWords : Type 0 where
   pub counts : List ℕ
   pub shortfalls : List ℕ
-  pub surpluses : List ℤ
+  pub balances : List ℤ
 
 abbrev pub words_in : List ℕ → List ℕ → List ℤ → BookWords
-words_in counts shortfalls surpluses = record { counts = counts; shortfalls = shortfalls; surpluses = surpluses }
+words_in counts shortfalls balances = record { counts = counts; shortfalls = shortfalls; balances = balances }
 
 -- how many words each has: the hours settled, the months closed, the mark and the year; two for each owner; the month's and the year's
 abbrev pub count_words : ℕ
@@ -23,8 +21,8 @@ count_words = 4
 abbrev pub shortfall_words : ℕ
 shortfall_words = 2 * owners
 
-abbrev pub surplus_words : ℕ
-surplus_words = 2
+abbrev pub balance_words : ℕ
+balance_words = 2
 
 -- ---- from a book to its words
 
@@ -39,12 +37,12 @@ cell_at month year place = cond (eqb (place % 2) 0) (get_or month (place / 2) 0)
 unfoldable pub by_owner : List ℕ → List ℕ → List ℕ
 by_owner month year = list_below (cell_at month year) shortfall_words
 
--- the month surplus, the year surplus
-unfoldable pub surpluses_of : Book → List ℤ
-surpluses_of book = pos book.monthsurplus ∷ pos book.yearsurplus ∷ []
+-- the month balance, the year balance, each with its sign: "Each surplus becomes a signed balance" (Wish 6)
+unfoldable pub balances_of : Book → List ℤ
+balances_of book = book.monthbalance ∷ book.yearbalance ∷ []
 
 abbrev pub words_of : Book → BookWords
-words_of book = words_in (counts_of book) (by_owner book.monthshort book.yearshort) (surpluses_of book)
+words_of book = words_in (counts_of book) (by_owner book.monthshort book.yearshort) (balances_of book)
 
 -- ---- from words to the book
 
@@ -58,9 +56,9 @@ year_in words = get_or words.counts 3 0
 unfoldable pub cells_from : List ℕ → ℕ → List ℕ
 cells_from shortfalls start = list_below (λ owner. get_or shortfalls (2 * owner + start) 0) owners
 
--- the month surplus is the surplus 0, the year surplus the surplus 1
-abbrev pub surplus_in : BookWords → ℕ → ℤ
-surplus_in words place = get_or words.surpluses place (pos 0)
+-- the month balance is the balance 0, the year balance the balance 1
+abbrev pub balance_in : BookWords → ℕ → ℤ
+balance_in words place = get_or words.balances place (pos 0)
 
 unfoldable pub book_from : BookWords → Book
 book_from words =
@@ -71,19 +69,19 @@ book_from words =
       ended = eqb (mark_in words) 1;
       monthshort = cells_from words.shortfalls 0;
       yearshort = cells_from words.shortfalls 1;
-      monthsurplus = positive (surplus_in words 0);
-      yearsurplus = positive (surplus_in words 1);
+      monthbalance = balance_in words 0;
+      yearbalance = balance_in words 1;
     }
 
 -- ---- words that are no book's
 
 -- so many words are no book's
 abbrev pub is_no_book : ℕ → ℕ → ℕ → Bool
-is_no_book counts shortfalls surpluses =
-    not (eqb counts count_words && eqb shortfalls shortfall_words && eqb surpluses surplus_words)
+is_no_book counts shortfalls balances =
+    not (eqb counts count_words && eqb shortfalls shortfall_words && eqb balances balance_words)
 
 abbrev pub is_wrong_count : BookWords → Bool
-is_wrong_count words = is_no_book (length words.counts) (length words.shortfalls) (length words.surpluses)
+is_wrong_count words = is_no_book (length words.counts) (length words.shortfalls) (length words.balances)
 
 -- counts of another number of words have no year to look at
 abbrev pub has_no_year : BookWords → Bool
@@ -92,7 +90,3 @@ has_no_year words = not (eqb (length words.counts) count_words)
 -- the mark is neither 0 nor 1
 abbrev pub is_wrong_mark : BookWords → Bool
 is_wrong_mark words = ltb 1 (mark_in words)
-
--- a surplus is below 0: "amounts in it are unsigned"
-abbrev pub is_overdrawn : BookWords → Bool
-is_overdrawn words = lt_z (surplus_in words 0) (pos 0) || lt_z (surplus_in words 1) (pos 0)

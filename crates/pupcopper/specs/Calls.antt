@@ -10,7 +10,7 @@ use Rattle.rights.specs.Layout.{reading}
 use Rattle.rights.specs.Reader.{is_finished, next_after}
 use Rattle.settlement.specs.Events.{Call, refusal, record_of, fund, demand, book_after, lines}
 use Rattle.settlement.specs.Book.{opened}
-use Rattle.pupcopper.specs.BookWords.{BookWords, words_of, book_from, year_in, has_no_year, is_wrong_count, is_wrong_mark, is_overdrawn}
+use Rattle.pupcopper.specs.BookWords.{BookWords, words_of, book_from, year_in, has_no_year, is_wrong_count, is_wrong_mark}
 
 -- the number of a call: that of its words, or the library's where they have none
 abbrev pub number_of : ℕ → ℕ → ℕ
@@ -86,16 +86,16 @@ open_refusal year words = first_refusal ((15 if is_outside year) ∷ (4 if is_wr
 abbrev pub words_opened : ℕ → BookWords → BookWords
 words_opened year words = cond (is_wrong_count words) words (words_of (opened year))
 
--- an event's report: the record number, F and D
-abbrev pub settled_report : ℕ → ℕ → ℕ → List ℤ
-settled_report faulty fund demand = pos faulty ∷ pos fund ∷ pos demand ∷ []
+-- an event's report: the record number, F with its sign, and D
+abbrev pub settled_report : ℕ → ℤ → ℕ → List ℤ
+settled_report faulty fund demand = pos faulty ∷ fund ∷ pos demand ∷ []
 
 abbrev pub settled_words : ℕ
 settled_words = 3
 
 -- what a book's words and a report that should have so many words call for before there is a book: in a call that knows the calendar 15 for
 -- its year, "before any other check" but 4 for counts that have none; 4 for the number of the book's words and for the report; 1, spoiled book, for
--- a mark that is neither 0 nor 1 and for a negative surplus
+-- a mark that is neither 0 nor 1
 unfoldable pub words_refusal : Bool → ℕ → BookWords → ℕ → ℕ
 words_refusal dated places words report =
     first_refusal
@@ -104,7 +104,6 @@ words_refusal dated places words report =
     ∷ (4 if is_wrong_count words)
     ∷ (4 if is_wrong_report places report)
     ∷ (1 if is_wrong_mark words)
-    ∷ (1 if is_overdrawn words)
     ∷ [])
 
 -- the refusal of an event, with a report of so many words and so many lines lent
@@ -118,6 +117,6 @@ pub record Settles (call : Call) (words : BookWords) (report lent : List ℤ) (g
   pub number : given ≡ event_refusal call words (length report) (length lent)
   pub reports : report_after
       ≡ cond (is_wrong_report settled_words (length report)) report
-      (settled_report (record_of call (year_in words) given) (answer_by given (fund call (book_from words)) 0) (answer_by given (demand call (book_from words)) 0))
+      (settled_report (record_of call (year_in words) given) (answer_by given (fund call (book_from words)) (pos 0)) (answer_by given (demand call (book_from words)) 0))
   pub gives_book : words_after ≡ answer_by given (words_of (book_after call (book_from words))) words
   pub writes_lines : lines_after ≡ answer_by given (lines call (book_from words)) lent

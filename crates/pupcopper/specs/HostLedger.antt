@@ -30,9 +30,9 @@ IsHostList year (entry ∷ past) =
     Settles entry.call (words_at year past) entry.report entry.lent entry.number entry.words entry.reported entry.written
     × IsHostList year past
 
--- a number in a report
-abbrev pub word_in : List ℤ → ℕ → ℕ
-word_in report place = positive (get_or report place (pos 0))
+-- a word of a report
+abbrev pub word_in : List ℤ → ℕ → ℤ
+word_in report place = get_or report place (pos 0)
 
 -- the entry of a ledger that a call makes: record number, F and D are those of its report, the book is the one that its words stand for
 abbrev pub entry_of : HostEntry → Entry
@@ -43,9 +43,9 @@ entry_of entry =
       result =
           record {
             refusal = entry.number;
-            faulty = word_in entry.reported 0;
+            faulty = positive (word_in entry.reported 0);
             fund = word_in entry.reported 1;
-            demand = word_in entry.reported 2;
+            demand = positive (word_in entry.reported 2);
             book = book_from entry.words;
           };
       written = entry.written;

@@ -2,7 +2,6 @@
 -- their sign.
 -- Assumes nothing.
 use Rattle.std.specs.Prelude.{ℕ, ◌^◌, ◌<◌, ◌≡◌, length}
-use Rattle.settlement.specs.declared.Book.{Book}
 use Rattle.settlement.specs.Events.{Call, hour_call, month_end_call, year_end_call, Settled}
 use Rattle.pupcopper.specs.BookWords.{BookWords, words_in}
 use Rattle.pupcopper.specs.declared.book_words.BookWords.{BookWords as ReadBook}
@@ -10,11 +9,11 @@ use Rattle.pupcopper.specs.declared.book_words.LentBook.{LentBook}
 
 -- the words in three slices, lent to be read
 abbrev pub words_read : ReadBook → BookWords
-words_read read = words_in read.counts.now read.shortfalls.now read.surpluses.now
+words_read read = words_in read.counts.now read.shortfalls.now read.balances.now
 
 -- the words in three slices, lent to be written
 abbrev pub words_lent : LentBook → BookWords
-words_lent lent = words_in lent.counts.now lent.shortfalls.now lent.surpluses.now
+words_lent lent = words_in lent.counts.now lent.shortfalls.now lent.balances.now
 
 -- the bytes of rights that an event is lent
 abbrev pub bytes_lent : Call → ℕ
@@ -26,16 +25,9 @@ bytes_lent year_end_call = 0
 pub record SameSlices (before after : LentBook) : Type 0 where
   pub counts : after.counts.ghost_name ≡ before.counts.ghost_name
   pub shortfalls : after.shortfalls.ghost_name ≡ before.shortfalls.ghost_name
-  pub surpluses : after.surpluses.ghost_name ≡ before.surpluses.ghost_name
+  pub balances : after.balances.ghost_name ≡ before.balances.ghost_name
 
--- the surpluses of a book
-pub record SurplusesFit (book : Book) : Type 0 where
-  pub month : book.monthsurplus < 2 ^ 63
-  pub year : book.yearsurplus < 2 ^ 63
-
--- an event's report, and its book where it is accepted
+-- the words of an event's report that have no sign
 pub record ResultFits (result : Settled) : Type 0 where
   pub named : result.faulty < 2 ^ 63
-  pub paid_from : result.fund < 2 ^ 63
   pub wanted : result.demand < 2 ^ 63
-  pub kept : result.refusal ≡ 0 → SurplusesFit result.book

@@ -1,11 +1,11 @@
-// The book as three lent slices: its counts and mark, its shortfalls by owner, its surpluses.
-ghost use Rattle.std.specs.Prelude.{ℕ, ◌^◌, ◌<◌, ◌≡◌, false, cond, List, ℤ, length, IfOk};
+// The book as three lent slices: its counts and mark, its shortfalls by owner, its balances.
+ghost use Rattle.std.specs.Prelude.{◌^◌, ◌<◌, ◌≡◌, false, cond, List, ℤ, length};
 ghost use Rattle.numbers.specs.Refusals.{answer_by, answered};
 ghost use Rattle.settlement.specs.Events.{Call, Answered, in_numbers};
 ghost use Rattle.std.specs.Borrow.{MutBor};
 ghost use Rattle.pupcopper.specs.BookWords.{by_owner, words_of, cells_from, book_from, shortfall_words, is_wrong_count};
 ghost use Rattle.pupcopper.specs.Calls.{is_wrong_report, settled_report, settled_words, words_refusal, Settles};
-ghost use Rattle.pupcopper.specs.InnerContracts.{bytes_lent, words_read, words_lent, SameSlices, SurplusesFit, ResultFits};
+ghost use Rattle.pupcopper.specs.InnerContracts.{bytes_lent, words_read, words_lent, SameSlices, ResultFits};
 
 use crate::reports;
 use numbers::{OWNERS, Refusal};
@@ -17,14 +17,14 @@ const COUNT_WORDS: usize = 4;
 
 const SHORTFALL_WORDS: usize = 2 * OWNERS;
 
-const SURPLUS_WORDS: usize = 2;
+const BALANCE_WORDS: usize = 2;
 
 // A book's words, to read.
 #[derive(Clone, Copy)]
 pub(crate) struct BookWords<'a> {
     pub(crate) counts: &'a [u64],
     pub(crate) shortfalls: &'a [u64],
-    pub(crate) surpluses: &'a [i64],
+    pub(crate) balances: &'a [i64],
 }
 
 impl BookWords<'_> {
@@ -34,15 +34,14 @@ impl BookWords<'_> {
     {
         !((self.counts.len() == COUNT_WORDS)
             & (self.shortfalls.len() == SHORTFALL_WORDS)
-            & (self.surpluses.len() == SURPLUS_WORDS))
+            & (self.balances.len() == BALANCE_WORDS))
     }
 
     // The book that the words stand for, or what they and a report that should have so many places call for before there is one: 4, 15 or
     // 1. `dated` is whether the call knows the calendar, so that it looks at the year.
     #[tactic(auto, using(crate::proofs::WordRows::rows), unfolding(crate::specs::BookWords::book_from))]
     pub(crate) fn book(&self, dated: bool, report: usize, places: usize) -> Result<Book, Refusal>
-        ensures value { result ≡ answered (words_refusal dated places (words_read self.now) report) 0 (book_from (words_read self.now)) }
-        ensures surpluses_fit { IfOk result (λ book. SurplusesFit book) }
+        ensures { result ≡ answered (words_refusal dated places (words_read self.now) report) 0 (book_from (words_read self.now)) }
     {
         if self.counts.len() != COUNT_WORDS {
             return Err(Refusal::WrongLength);
@@ -59,9 +58,6 @@ impl BookWords<'_> {
         if self.counts[2] > 1 {
             return Err(Refusal::SpoiledBook);
         }
-        if (self.surpluses[0] < 0) | (self.surpluses[1] < 0) {
-            return Err(Refusal::SpoiledBook);
-        }
         Ok(Book {
             year: self.counts[3],
             hours: self.counts[0],
@@ -69,8 +65,8 @@ impl BookWords<'_> {
             ended: self.counts[2] == 1,
             monthshort: cells_from(self.shortfalls, 0),
             yearshort: cells_from(self.shortfalls, 1),
-            monthsurplus: numbers::positive_part(self.surpluses[0]),
-            yearsurplus: numbers::positive_part(self.surpluses[1]),
+            monthbalance: self.balances[0],
+            yearbalance: self.balances[1],
         })
     }
 }
@@ -89,7 +85,7 @@ fn cells_from(shortfalls: &[u64], start: usize) -> [u64; OWNERS]
 pub(crate) struct LentBook<'a> {
     pub(crate) counts: &'a mut [u64],
     pub(crate) shortfalls: &'a mut [u64],
-    pub(crate) surpluses: &'a mut [i64],
+    pub(crate) balances: &'a mut [i64],
 }
 
 impl LentBook<'_> {
@@ -100,24 +96,21 @@ impl LentBook<'_> {
         BookWords {
             counts: self.counts,
             shortfalls: self.shortfalls,
-            surpluses: self.surpluses,
+            balances: self.balances,
         }
     }
 
     // Writes a book's words.
-    #[tactic(auto, unfolding(crate::specs::BookWords::counts_of, crate::specs::BookWords::surpluses_of))]
+    #[tactic(auto, unfolding(crate::specs::BookWords::counts_of, crate::specs::BookWords::balances_of))]
     pub(crate) fn write(&mut self, book: Book)
-        requires right_count { is_wrong_count (words_lent self.old) ≡ false }
-        requires surpluses_fit { SurplusesFit book }
+        requires { is_wrong_count (words_lent self.old) ≡ false }
         ensures words_after { words_lent self.new ≡ words_of book }
         ensures same_slices { SameSlices self.old self.new }
     {
         self.counts.copy_from_slice(&[book.hours, book.months, u64::from(book.ended), book.year]);
         write_cells(&book.monthshort, &book.yearshort, self.shortfalls);
-        self.surpluses.copy_from_slice(&[
-            book.monthsurplus.cast_signed(),
-            book.yearsurplus.cast_signed(),
-        ]);
+        self.balances
+            .copy_from_slice(&[book.monthbalance, book.yearbalance]);
     }
 
     // Settles an event of the book that the words stand for, or refuses the words. A refusal is a number here: the C interface.

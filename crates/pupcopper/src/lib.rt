@@ -192,7 +192,7 @@ pub extern "C" fn pupcopper_split(
     reports::number_of(outcome)
 }
 
-// ---- the book, as three lent slices: its counts, mark and year, its shortfalls, its surpluses
+// ---- the book, as three lent slices: its counts, mark and year, its shortfalls, its balances
 
 // Writes the fresh book of a year, or a book all 0 where there is no such year.
 #[unsafe(no_mangle)]
@@ -201,15 +201,15 @@ pub extern "C" fn pupcopper_open(
     year: u64,
     counts: &mut [u64],
     shortfalls: &mut [u64],
-    surpluses: &mut [i64],
+    balances: &mut [i64],
 ) -> u8
-    ensures value { result ≡ open_refusal year (words_in counts.old shortfalls.old surpluses.old) }
-    ensures words_after { words_in counts.new shortfalls.new surpluses.new ≡ words_opened year (words_in counts.old shortfalls.old surpluses.old) }
+    ensures value { result ≡ open_refusal year (words_in counts.old shortfalls.old balances.old) }
+    ensures words_after { words_in counts.new shortfalls.new balances.new ≡ words_opened year (words_in counts.old shortfalls.old balances.old) }
 {
     let mut lent = LentBook {
         counts,
         shortfalls,
-        surpluses,
+        balances,
     };
     if lent.words().is_no_book() {
         return reports::wrong_length(year);
@@ -224,19 +224,19 @@ pub extern "C" fn pupcopper_open(
 pub extern "C" fn pupcopper_hour(
     counts: &mut [u64],
     shortfalls: &mut [u64],
-    surpluses: &mut [i64],
+    balances: &mut [i64],
     rights: &[u8],
     prices: &[i32],
     collected: i64,
     lines: &mut [i64],
     report: &mut [i64],
 ) -> u8
-    ensures { Settles (hour_call rights.now prices.now collected) (words_in counts.old shortfalls.old surpluses.old) report.old lines.old result (words_in counts.new shortfalls.new surpluses.new) report.new lines.new }
+    ensures { Settles (hour_call rights.now prices.now collected) (words_in counts.old shortfalls.old balances.old) report.old lines.old result (words_in counts.new shortfalls.new balances.new) report.new lines.new }
 {
     let mut lent = LentBook {
         counts,
         shortfalls,
-        surpluses,
+        balances,
     };
     lent.settle(
         |book, lines| book.hour(rights, prices, collected, lines),
@@ -250,16 +250,16 @@ pub extern "C" fn pupcopper_hour(
 pub extern "C" fn pupcopper_month_end(
     counts: &mut [u64],
     shortfalls: &mut [u64],
-    surpluses: &mut [i64],
+    balances: &mut [i64],
     lines: &mut [i64],
     report: &mut [i64],
 ) -> u8
-    ensures { Settles month_end_call (words_in counts.old shortfalls.old surpluses.old) report.old lines.old result (words_in counts.new shortfalls.new surpluses.new) report.new lines.new }
+    ensures { Settles month_end_call (words_in counts.old shortfalls.old balances.old) report.old lines.old result (words_in counts.new shortfalls.new balances.new) report.new lines.new }
 {
     let mut lent = LentBook {
         counts,
         shortfalls,
-        surpluses,
+        balances,
     };
     lent.settle(Book::month_end, lines, report)
 }
@@ -269,16 +269,16 @@ pub extern "C" fn pupcopper_month_end(
 pub extern "C" fn pupcopper_year_end(
     counts: &mut [u64],
     shortfalls: &mut [u64],
-    surpluses: &mut [i64],
+    balances: &mut [i64],
     lines: &mut [i64],
     report: &mut [i64],
 ) -> u8
-    ensures { Settles year_end_call (words_in counts.old shortfalls.old surpluses.old) report.old lines.old result (words_in counts.new shortfalls.new surpluses.new) report.new lines.new }
+    ensures { Settles year_end_call (words_in counts.old shortfalls.old balances.old) report.old lines.old result (words_in counts.new shortfalls.new balances.new) report.new lines.new }
 {
     let mut lent = LentBook {
         counts,
         shortfalls,
-        surpluses,
+        balances,
     };
     lent.settle(Book::year_end, lines, report)
 }
@@ -292,19 +292,19 @@ pub extern "C" fn pupcopper_year_end(
 pub extern "C" fn pupcopper_step(
     counts: &mut [u64],
     shortfalls: &mut [u64],
-    surpluses: &mut [i64],
+    balances: &mut [i64],
     rights: &[u8],
     block: &[u8],
     text: &mut [u8],
     end: usize,
     report: &mut [u64],
 ) -> u8
-    ensures { HostSteps rights.now block.now (words_in counts.old shortfalls.old surpluses.old) text.old end report.old result (words_in counts.new shortfalls.new surpluses.new) text.new report.new }
+    ensures { HostSteps rights.now block.now (words_in counts.old shortfalls.old balances.old) text.old end report.old result (words_in counts.new shortfalls.new balances.new) text.new report.new }
 {
     let mut lent = LentBook {
         counts,
         shortfalls,
-        surpluses,
+        balances,
     };
     // This match stands in `pupcopper_closing` and in `LentBook::settle` too: each has other words to write, so that a shared function is no plainer.
     match lent.words().book(true, report.len(), runs::STEPPED_WORDS) {
@@ -322,26 +322,26 @@ pub extern "C" fn pupcopper_step(
     }
 }
 
-// What comes after the last block: both surpluses, or the refusal that stopped the run.
+// What comes after the last block: both balances, or the refusal that stopped the run.
 #[unsafe(no_mangle)]
 #[tactic(auto, using(crate::proofs::WordRows::refused_number))]
 pub extern "C" fn pupcopper_closing(
     counts: &[u64],
     shortfalls: &[u64],
-    surpluses: &[i64],
+    balances: &[i64],
     refusal: u8,
     text: &mut [u8],
     end: usize,
     report: &mut [u64],
 ) -> u8
-    ensures value { result ≡ words_refusal false closed_words (words_in counts.now shortfalls.now surpluses.now) (length report.old) }
-    ensures text_after { text.new ≡ closing_text (words_in counts.now shortfalls.now surpluses.now) refusal text.old end (length report.old) }
-    ensures report_after { report.new ≡ reported closed_words report.old (closed_report (closing_run (words_in counts.now shortfalls.now surpluses.now) refusal text.old end (length report.old))) }
+    ensures value { result ≡ words_refusal false closed_words (words_in counts.now shortfalls.now balances.now) (length report.old) }
+    ensures text_after { text.new ≡ closing_text (words_in counts.now shortfalls.now balances.now) refusal text.old end (length report.old) }
+    ensures report_after { report.new ≡ reported closed_words report.old (closed_report (closing_run (words_in counts.now shortfalls.now balances.now) refusal text.old end (length report.old))) }
 {
     let words = BookWords {
         counts,
         shortfalls,
-        surpluses,
+        balances,
     };
     match words.book(false, report.len(), runs::CLOSED_WORDS) {
         Ok(book) => {

@@ -90,16 +90,12 @@ pub(crate) fn of_step(given: Option<Result<Right, Refusal>>, next: u64) -> [u64;
     words
 }
 
-// The words of an event: the record number, F and D, numbers for the C interface.
-pub(crate) fn of_event(faulty: u64, fund: u64, demand: u64) -> [i64; SETTLED_WORDS]
-    requires amounts_fit { (faulty < 2 ^ 63) × (fund < 2 ^ 63) × (demand < 2 ^ 63) }
+// The words of an event: the record number, F with its sign, and D, numbers for the C interface.
+pub(crate) fn of_event(faulty: u64, fund: i64, demand: u64) -> [i64; SETTLED_WORDS]
+    requires amounts_fit { (faulty < 2 ^ 63) × (demand < 2 ^ 63) }
     ensures { result ≡ settled_report faulty fund demand }
 {
-    [
-        faulty.cast_signed(),
-        fund.cast_signed(),
-        demand.cast_signed(),
-    ]
+    [faulty.cast_signed(), fund, demand.cast_signed()]
 }
 
 // Writes these words, if the report has their places.

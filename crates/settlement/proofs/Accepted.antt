@@ -13,9 +13,9 @@ use Rattle.numbers.specs.Refusals.{first_refusal}
 use Rattle.numbers.proofs.Refusals.{refusal_both}
 use Rattle.calendar.specs.Year.{hours_in_year, months_in_year, is_month_end}
 use Rattle.settlement.specs.declared.Book.{Book}
-use Rattle.settlement.specs.Book.{all_shortfalls, most_surplus}
+use Rattle.settlement.specs.Book.{all_shortfalls}
 use Rattle.settlement.specs.Events.{Call, hour_call, month_end_call, year_end_call, event_of, next_targets, hour_charges, wants, fund, book_after, is_out_of_turn, input_rows, size_rows, own_rows, refusal}
-use Rattle.settlement.proofs.LineSigns.{amount_most}
+use Rattle.settlement.proofs.Balances.{InBounds, fund_in_bounds}
 use Rattle.settlement.proofs.SharingOut.{size_clear}
 use Rattle.settlement.proofs.Refusing.{event_clear, accepted_early, from_own, in_turn, calm_amount, input_within}
 
@@ -25,7 +25,7 @@ pub record HourAccepted (file : List ℕ) (prices : List ℤ) (collected : ℤ) 
   pub not_due : is_month_end book.year book.hours book.months ≡ false
   pub in_year : book.hours < hours_in_year book.year
   pub wants_most : total (wants (hour_call file prices collected) book) ≤ most_cents
-  pub fund_most : fund (hour_call file prices collected) book ≤ most_surplus
+  pub fund_bounded : InBounds 1 (fund (hour_call file prices collected) book)
   pub carry : all_shortfalls (book_after (hour_call file prices collected) book) ≤ most_cents
 
 module _ (file : List ℕ) (prices : List ℤ) (collected : ℤ) (book : Book) (places : ℕ) where
@@ -52,7 +52,7 @@ module _ (file : List ℕ) (prices : List ℤ) (collected : ℤ) (book : Book) (
         not_due = turn.0;
         in_year = turn.1;
         wants_most = size.0;
-        fund_most = omega (arith, amount_most collected (calm_amount book.year file prices collected own.0), size.1);
+        fund_bounded = fund_in_bounds collected (hour_charges (next_targets file prices book)) (calm_amount book.year file prices collected own.0) size.1;
         carry = size.2;
       }
 

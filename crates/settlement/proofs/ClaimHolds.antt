@@ -8,6 +8,7 @@ use native.Mathlib.Nat.{le_antisymm}
 use native.Mathlib.Omega.{arith}
 use lib.ListN.{length}
 use lib.IntN.{ℤ}
+use borrow.Author.Differences.{ints}
 use Rattle.numbers.specs.Limits.{owners}
 use Rattle.numbers.proofs.Refusals.{answer_refused}
 use Rattle.calendar.specs.Year.{months_in_year}
@@ -70,7 +71,7 @@ module _ (year : ℕ) (past : List Entry) (lent : List ℤ) (result : Settled) (
       (hour_accepted file prices collected (book_at year past) (length lent) (sym (gives_number answered) ∙ accepted)))
   is_fund month_end_call answered accepted = kept.month_fund
   is_fund year_end_call answered accepted =
-      omega (arith, kept.all_fund, (kept.empty_month (year_closed answered accepted)).1)
+      omega (arith, ints, kept.all_fund, (kept.empty_month (year_closed answered accepted)).1)
 
 -- a refused call leaves the book and the lent lines as they were
 module _ (year : ℕ) (past : List Entry) (entry : Entry)
@@ -162,7 +163,7 @@ claim_of_ledger year within ledger answered =
     record {
       sound = sound_all year within ledger answered;
       keeps_year = kept.same_year;
-      closes = omega (arith, kept.all_fund);
+      closes = omega (arith, ints, kept.all_fund);
       owner_closes = λ owner inside. omega (arith, kept.all_owner owner inside);
       year_closes = λ ended. kept.year_done (kept.ended_only ended);
     }

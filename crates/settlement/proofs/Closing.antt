@@ -1,10 +1,13 @@
 -- The end of a month or of the year: what the rows of every event let pass, and that its payments fit the book.
 -- Assumes nothing.
 use Prim.Native.Nat.{ℕ, ◌+◌, ◌≤◌, ◌<◌, ◌^◌}
-use mathlib.Core.Path.{◌≡◌, refl, sym, ap, ◌∙◌}
+use mathlib.Core.Path.{◌≡◌, refl, sym, ap, subst, ◌∙◌}
 use mathlib.Core.Bool.{false}
 use native.Mathlib.Omega.{arith}
 use lib.ListN.{length, get_or}
+use lib.IntN.{◌+ℤ◌}
+use borrow.Author.Differences.{ints}
+use Rattle.std.proofs.Common.{w64, FitsSigned}
 use Rattle.std.specs.Prelude.{Result, Ok}
 use Rattle.numbers.specs.declared.refusal.Refusal.{Refusal}
 use Rattle.numbers.specs.Limits.{owners, most_cents}
@@ -12,7 +15,6 @@ use Rattle.numbers.specs.Lists.{total}
 use Rattle.numbers.specs.Refusals.{answered, first_refusal}
 use Rattle.numbers.proofs.Counts.{get_or_le_total}
 use Rattle.numbers.proofs.Refusals.{answered_ok}
-use Rattle.split.specs.Split.{payments}
 use Rattle.settlement.specs.declared.Book.{Book}
 use Rattle.settlement.specs.declared.End.{End}
 use Rattle.settlement.specs.declared.End.TheVariants.{Month, Year}
@@ -20,10 +22,12 @@ use Rattle.settlement.specs.declared.Event.{Event}
 use Rattle.settlement.specs.declared.payment.Paid.{Paid}
 use Rattle.settlement.specs.Book.{is_spoiled, all_shortfalls}
 use Rattle.settlement.specs.Ends.{end_call, event_at}
-use Rattle.settlement.specs.Events.{paid, payment_lines, lines, event_rows, own_rows, refusal, record_of}
+use Rattle.settlement.specs.Events.{payout, paid, payment_lines, lines, event_rows, own_rows, refusal, record_of}
 use Rattle.settlement.specs.InnerContracts.{paid_from}
-use Rattle.settlement.proofs.NotSpoiled.{in_step, months_within, shortfalls_within, surplus_within}
-use Rattle.settlement.proofs.Paying.{unpaid_small, left_small}
+use Rattle.settlement.proofs.Balances.{InBounds, IsLeft, left_in_bounds, bounds_fit}
+use Rattle.settlement.proofs.NotSpoiled.{in_step, months_within, few_hours, shortfalls_within, balances_within}
+use Rattle.settlement.proofs.Paying.{unpaid_small}
+use Rattle.settlement.proofs.Payouts.{left_between}
 use Rattle.settlement.proofs.Refusing.{event_clear, event_alone}
 
 -- its rows are those of every event, and its refusals name no record
@@ -66,17 +70,19 @@ module _ {end : End} {book : Book} {places : ℕ} (pass : Passed end book places
   pub within : all_shortfalls book ≤ most_cents
   within = shortfalls_within book pass.sound
 
-  -- what the month pays leaves room in the year's cells and in the year surplus
-  module _ {paid : Paid} (p : paid ≡ paid_from book.monthsurplus book.monthshort) where
+  -- what the month pays leaves room in the year's cells and in the year's balance
+  module _ {paid : Paid} (p : paid ≡ paid_from book.monthbalance book.monthshort) where
     pub cells_fit : length book.monthshort ≡ owners → (i : ℕ) → get_or book.yearshort i 0 + get_or paid.unpaid i 0 < 2 ^ 64
     cells_fit all i =
-        let small = unpaid_small book.monthshort (payments book.monthsurplus book.monthshort) all in
+        let small = unpaid_small book.monthshort (payout book.monthbalance book.monthshort).payments all in
         omega (arith, small, within, ap (λ (x : Paid). total x.unpaid) p, get_or_le_total book.yearshort i, get_or_le_total paid.unpaid i)
 
-    pub month_fits : (book.months + 1 < 2 ^ 64) × (paid.left ≤ book.monthsurplus) × (book.monthsurplus + book.yearsurplus < 2 ^ 64)
+    pub month_fits : (book.months + 1 < 2 ^ 64) × FitsSigned w64 (book.yearbalance +ℤ paid.left)
     month_fits =
-        let surplus = surplus_within book pass.sound in
-        let rest = left_small book.monthsurplus book.monthshort in
-        let same = ap (λ (x : Paid). x.left) p in
+        let bounded = balances_within book pass.sound in
         let months = months_within book.year book.hours book.months book.ended (in_step book pass.sound) in
-        (omega arith, omega arith, omega arith)
+        let left =
+        left_in_bounds book.hours book.yearbalance book.monthbalance paid.left bounded.year
+        (subst (InBounds book.hours) (omega (arith, ints)) bounded.both)
+        (subst (IsLeft book.monthbalance) (sym (ap (λ (x : Paid). x.left) p)) (left_between book.monthbalance book.monthshort)) in
+        (omega arith, bounds_fit book.hours (book.yearbalance +ℤ paid.left) (omega (arith, few_hours book pass.sound)) left)

@@ -4,7 +4,7 @@ use Prim.Native.Nat.{ℕ, ◌+◌, ◌<◌}
 use mathlib.Core.Path.{◌≡◌, refl, sym, ap, ◌∙◌}
 use mathlib.Core.List.{List, ◌∷◌}
 use lib.ListN.{length, get_or}
-use lib.IntN.{ℤ, pos}
+use lib.IntN.{ℤ, pos, ◌+ℤ◌}
 use Rattle.numbers.specs.Limits.{owners}
 use Rattle.numbers.specs.Lists.{total, list_below}
 use Rattle.numbers.specs.Refusals.{answer_by}
@@ -12,24 +12,46 @@ use Rattle.numbers.specs.Signs.{positive, negative}
 use Rattle.numbers.proofs.Refusals.{answer_accepted, answer_refused}
 use Rattle.numbers.proofs.Counts.{list_below_ext}
 use Rattle.settlement.specs.Events.{fund, demand, lines, book_after, refusal, Answered}
-use Rattle.settlement.specs.Ledger.{Entry, book_at, if_accepted, at_hour, at_month_end, at_year_end, hour_count, month_end_count, year_end_count, sum_over, sum_since, call_positive, positive_target, line_of, credit, hour_credit, charge, call_amount, collection, of_all}
+use Rattle.settlement.specs.Ledger.{Entry, book_at, if_accepted, at_hour, at_month_end, at_year_end, hour_count, month_end_count, year_end_count, over, since, sum_over, sum_since, balance_over, balance_since, call_positive, positive_target, line_of, credit, hour_credit, charge, call_amount, collection, of_all}
 use Rattle.settlement.proofs.Shares.{paid_to, credit_is}
 use Rattle.settlement.proofs.Refusing.{gives_number, gives_fund, gives_demand, gives_book_lem}
 
 -- ---- sums, one entry further
 
+module _ {A : Type 0} (none : A) (plus : A → A → A) (part : List Entry → Entry → A) (entry : Entry) (past : List Entry) where
+  over_more : over none plus part (entry ∷ past) ≡ plus (part past entry) (over none plus part past)
+  unfolding over
+  over_more = refl
+
+  since_more : month_end_count past entry ≡ 0 → since none plus part (entry ∷ past) ≡ plus (part past entry) (since none plus part past)
+  unfolding since
+  since_more zero = answer_accepted (month_end_count past entry) (plus (part past entry) (since none plus part past)) none zero
+
+  since_none : month_end_count past entry ≡ 1 → since none plus part (entry ∷ past) ≡ none
+  unfolding since
+  since_none one = ap (λ (n : ℕ). answer_by n (plus (part past entry) (since none plus part past)) none) one
+
+-- of counts and cents
 module _ (part : List Entry → Entry → ℕ) (entry : Entry) (past : List Entry) where
   pub over_next : sum_over part (entry ∷ past) ≡ part past entry + sum_over part past
-  unfolding sum_over
-  over_next = refl
+  over_next = over_more 0 ◌+◌ part entry past
 
   pub since_next : month_end_count past entry ≡ 0 → sum_since part (entry ∷ past) ≡ part past entry + sum_since part past
-  unfolding sum_since
-  since_next none = answer_accepted (month_end_count past entry) (part past entry + sum_since part past) 0 none
+  since_next = since_more 0 ◌+◌ part entry past
 
   pub since_closed : month_end_count past entry ≡ 1 → sum_since part (entry ∷ past) ≡ 0
-  unfolding sum_since
-  since_closed one = ap (λ (n : ℕ). answer_by n (part past entry + sum_since part past) 0) one
+  since_closed = since_none 0 ◌+◌ part entry past
+
+-- of cents of either sign
+module _ (part : List Entry → Entry → ℤ) (entry : Entry) (past : List Entry) where
+  pub balance_next : balance_over part (entry ∷ past) ≡ part past entry +ℤ balance_over part past
+  balance_next = over_more (pos 0) ◌+ℤ◌ part entry past
+
+  pub balance_since_next : month_end_count past entry ≡ 0 → balance_since part (entry ∷ past) ≡ part past entry +ℤ balance_since part past
+  balance_since_next = since_more (pos 0) ◌+ℤ◌ part entry past
+
+  pub balance_since_closed : month_end_count past entry ≡ 1 → balance_since part (entry ∷ past) ≡ pos 0
+  balance_since_closed = since_none (pos 0) ◌+ℤ◌ part entry past
 
 -- a part of all owners together, from the part of each
 pub all_is : (part : ℕ → List Entry → Entry → ℕ) (past : List Entry) (entry : Entry) (each : ℕ → ℕ)
@@ -53,7 +75,7 @@ pub record Nothing (year : ℕ) (past : List Entry) (entry : Entry) : Type 0 whe
   pub credits : (owner : ℕ) → credit owner past entry ≡ 0
   pub hour_credits : (owner : ℕ) → hour_credit owner past entry ≡ 0
   pub charges : (owner : ℕ) → charge owner past entry ≡ 0
-  pub collected : collection past entry ≡ 0
+  pub collected : collection past entry ≡ pos 0
 
 module _ (year : ℕ) (past : List Entry) (entry : Entry) (refused : entry.result.refusal ≡ 0 → ⊥) where
   nothing : (amount : ℕ) → if_accepted entry amount ≡ 0
@@ -70,7 +92,7 @@ module _ (year : ℕ) (past : List Entry) (entry : Entry) (refused : entry.resul
         credits = λ owner. nothing (positive (line_of entry owner));
         hour_credits = λ owner. nothing (at_hour entry.call (positive (line_of entry owner)));
         charges = λ owner. nothing (at_hour entry.call (negative (line_of entry owner)));
-        collected = nothing (call_amount entry.call);
+        collected = answer_refused entry.result.refusal (call_amount entry.call) (pos 0) refused;
       }
 
 -- ---- an accepted entry, answered on the book before it
@@ -102,7 +124,7 @@ module _ (year : ℕ) (past : List Entry) (entry : Entry)
   book_is = gives_book_lem answered ∙ answer_accepted _ (book_after entry.call (book_at year past)) (book_at year past) by_table_lem
 
   pub fund_is_lem : entry.result.fund ≡ fund entry.call (book_at year past)
-  fund_is_lem = gives_fund answered ∙ answer_accepted _ (fund entry.call (book_at year past)) 0 by_table_lem
+  fund_is_lem = gives_fund answered ∙ answer_accepted _ (fund entry.call (book_at year past)) (pos 0) by_table_lem
 
   pub demand_is_lem : entry.result.demand ≡ demand entry.call (book_at year past)
   demand_is_lem = gives_demand answered ∙ answer_accepted _ (demand entry.call (book_at year past)) 0 by_table_lem
@@ -130,7 +152,7 @@ module _ (year : ℕ) (past : List Entry) (entry : Entry)
         charges =
             λ owner inside.
             whole (at_hour entry.call (negative (line_of entry owner))) ∙ ap (λ (z : ℤ). at_hour entry.call (negative z)) (line_at owner);
-        collected = whole (call_amount entry.call);
+        collected = answer_accepted entry.result.refusal (call_amount entry.call) (pos 0) accepted;
         all_credits =
             all_is credit past entry (paid_to entry.call (book_at year past))
             (λ owner inside. whole (positive (line_of entry owner)) ∙ paid_at owner inside);

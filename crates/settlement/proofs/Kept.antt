@@ -8,14 +8,18 @@ use mathlib.Core.List.{List, [], ◌∷◌}
 use native.Mathlib.Nat.{not-suc-le-zero}
 use native.Mathlib.Omega.{arith}
 use lib.ListN.{get_or-replicate}
+use lib.IntN.{pos, ◌+ℤ◌, ◌-ℤ◌}
+use lib.Signed.{◌≤ℤ◌}
+use borrow.Author.Differences.{ints}
 use Rattle.numbers.specs.Limits.{owners}
 use Rattle.numbers.specs.Lists.{total}
 use Rattle.calendar.specs.Almanac.{is_outside}
 use Rattle.calendar.specs.Year.{months_in_year}
 use Rattle.settlement.specs.declared.Book.{Book}
 use Rattle.settlement.specs.Book.{fresh, month_short, open_shortfall, is_short, fund_left}
-use Rattle.settlement.specs.Ledger.{Entry, sum_over, sum_since, hour_count, month_end_count, year_end_count, positive_target, credit, hour_credit, charge, collection, of_all}
-use Rattle.settlement.proofs.EntryParts.{Nothing, over_next, since_next, none_of_all}
+use Rattle.settlement.specs.Ledger.{Entry, over, since, sum_over, sum_since, balance_over, balance_since, hour_count, month_end_count, year_end_count, positive_target, credit, hour_credit, charge, collection, of_all}
+use Rattle.settlement.proofs.EntryParts.{Nothing, over_next, since_next, balance_next, balance_since_next, none_of_all}
+use Rattle.settlement.proofs.Balances.{nothing_in_bounds}
 use Rattle.settlement.proofs.Sane.{Sane}
 use Rattle.settlement.proofs.Shares.{IsLong}
 
@@ -31,14 +35,16 @@ pub record Kept (year : ℕ) (past : List Entry) (book : Book) : Type 0 where
       → month_short book owner + sum_since (hour_credit owner) past ≡ sum_since (positive_target year owner) past
   pub all_owner : (owner : ℕ) → owner < owners
       → open_shortfall book owner + sum_over (credit owner) past ≡ sum_over (positive_target year owner) past
-  pub month_fund : book.monthsurplus + sum_since (of_all hour_credit) past ≡ sum_since collection past + sum_since (of_all charge) past
-  pub all_fund : fund_left book + sum_over (of_all credit) past ≡ sum_over collection past + sum_over (of_all charge) past
-  pub empty_month : book.months ≡ months_in_year → ((owner : ℕ) → owner < owners → month_short book owner ≡ 0) × (book.monthsurplus ≡ 0)
-  pub year_done : book.ended ≡ true → (fund_left book ≡ 0) ⊎ ((owner : ℕ) → owner < owners → is_short book owner ≡ false)
+  pub month_fund : book.monthbalance
+      ≡ balance_since collection past +ℤ pos (sum_since (of_all charge) past) -ℤ pos (sum_since (of_all hour_credit) past)
+  pub all_fund : fund_left book ≡ balance_over collection past +ℤ pos (sum_over (of_all charge) past) -ℤ pos (sum_over (of_all credit) past)
+  pub empty_month : book.months ≡ months_in_year
+      → ((owner : ℕ) → owner < owners → month_short book owner ≡ 0) × (book.monthbalance ≡ pos 0)
+  pub year_done : book.ended ≡ true → (fund_left book ≤ℤ pos 0) ⊎ ((owner : ℕ) → owner < owners → is_short book owner ≡ false)
 
 -- the fresh book, before any call
 pub kept_fresh : (year : ℕ) → is_outside year ≡ false → Kept year [] (fresh year)
-unfolding fresh sum_over sum_since total
+unfolding fresh over since total
 kept_fresh year within =
     record {
       same_year = refl;
@@ -53,7 +59,7 @@ kept_fresh year within =
             full = λ e. absurd (omega arith);
             ended_full = λ e. absurd (false≢true e);
             short_most = zero-le;
-            surplus_most = zero-le;
+            bounded = record { month = nothing_in_bounds 0; year = nothing_in_bounds 0; both = nothing_in_bounds 0 };
           };
       hours = refl;
       months = refl;
@@ -69,11 +75,11 @@ kept_fresh year within =
 
 -- a refused call leaves the book, and adds nothing to what is read
 module _ (year : ℕ) (past : List Entry) (entry : Entry) (book : Book) (kept : Kept year past book) (none : Nothing year past entry) where
-  over : (part : List Entry → Entry → ℕ) → part past entry ≡ 0 → sum_over part past ≡ sum_over part (entry ∷ past)
-  over part zero = omega (arith, over_next part entry past, zero)
+  over_same : (part : List Entry → Entry → ℕ) → part past entry ≡ 0 → sum_over part past ≡ sum_over part (entry ∷ past)
+  over_same part zero = omega (arith, over_next part entry past, zero)
 
-  since : (part : List Entry → Entry → ℕ) → part past entry ≡ 0 → sum_since part past ≡ sum_since part (entry ∷ past)
-  since part zero = omega (arith, since_next part entry past none.month, zero)
+  since_same : (part : List Entry → Entry → ℕ) → part past entry ≡ 0 → sum_since part past ≡ sum_since part (entry ∷ past)
+  since_same part zero = omega (arith, since_next part entry past none.month, zero)
 
   pub kept_refused : Kept year (entry ∷ past) book
   kept_refused =
@@ -81,24 +87,24 @@ module _ (year : ℕ) (past : List Entry) (entry : Entry) (book : Book) (kept : 
         same_year = kept.same_year;
         long = kept.long;
         sane = kept.sane;
-        hours = kept.hours ∙ over hour_count none.hour;
-        months = kept.months ∙ over month_end_count none.month;
-        ended_after = λ e. subst (λ (n : ℕ). 0 < n) (over year_end_count none.year_end) (kept.ended_after e);
-        ended_only = λ l. kept.ended_only (subst (λ (n : ℕ). 0 < n) (sym (over year_end_count none.year_end)) l);
+        hours = kept.hours ∙ over_same hour_count none.hour;
+        months = kept.months ∙ over_same month_end_count none.month;
+        ended_after = λ e. subst (λ (n : ℕ). 0 < n) (over_same year_end_count none.year_end) (kept.ended_after e);
+        ended_only = λ l. kept.ended_only (subst (λ (n : ℕ). 0 < n) (sym (over_same year_end_count none.year_end)) l);
         month_owner =
             λ owner inside.
             omega
-            (arith, kept.month_owner owner inside, since (hour_credit owner) (none.hour_credits owner), since (positive_target year owner) (none.target owner));
+            (arith, kept.month_owner owner inside, since_same (hour_credit owner) (none.hour_credits owner), since_same (positive_target year owner) (none.target owner));
         all_owner =
             λ owner inside.
             omega
-            (arith, kept.all_owner owner inside, over (credit owner) (none.credits owner), over (positive_target year owner) (none.target owner));
+            (arith, kept.all_owner owner inside, over_same (credit owner) (none.credits owner), over_same (positive_target year owner) (none.target owner));
         month_fund =
             omega
-            (arith, kept.month_fund, since (of_all hour_credit) (none_of_all hour_credit past entry (λ o _. none.hour_credits o)), since collection none.collected, since (of_all charge) (none_of_all charge past entry (λ o _. none.charges o)));
+            (arith, ints, kept.month_fund, since_same (of_all hour_credit) (none_of_all hour_credit past entry (λ o _. none.hour_credits o)), balance_since_next collection entry past none.month, none.collected, since_same (of_all charge) (none_of_all charge past entry (λ o _. none.charges o)));
         all_fund =
             omega
-            (arith, kept.all_fund, over (of_all credit) (none_of_all credit past entry (λ o _. none.credits o)), over collection none.collected, over (of_all charge) (none_of_all charge past entry (λ o _. none.charges o)));
+            (arith, ints, kept.all_fund, over_same (of_all credit) (none_of_all credit past entry (λ o _. none.credits o)), balance_next collection entry past, none.collected, over_same (of_all charge) (none_of_all charge past entry (λ o _. none.charges o)));
         empty_month = kept.empty_month;
         year_done = kept.year_done;
       }

@@ -1,13 +1,14 @@
 -- An accepted hour keeps the tie between the book and its entries.
 -- Assumes nothing.
 use Prim.Native.Nat.{ℕ, ◌+◌, ◌<◌}
-use mathlib.Core.Path.{◌≡◌, sym, ap, ap₂, ◌∙◌}
+use mathlib.Core.Path.{◌≡◌, sym, ap, ap₂, subst, ◌∙◌}
 use mathlib.Core.Bool.{Bool, false, ◌&&◌, true≢false}
 use mathlib.Core.List.{List, ◌∷◌}
 use native.Mathlib.Omega.{arith}
 use lib.Dec.{eqb}
 use lib.ListN.{get_or}
-use lib.IntN.{ℤ}
+use lib.IntN.{ℤ, pos, ◌+ℤ◌}
+use borrow.Author.Differences.{ints}
 use borrow.Author.Tests.{lt-ltb, eqb-false}
 use Rattle.numbers.specs.Limits.{owners}
 use Rattle.numbers.specs.Lists.{total, list_below}
@@ -16,15 +17,15 @@ use Rattle.numbers.proofs.Counts.{length_list_below}
 use Rattle.calendar.specs.Year.{months_in_year, month_end, is_month_end}
 use Rattle.target.specs.Target.{target}
 use Rattle.target.proofs.Answer.{target_at}
-use Rattle.split.specs.Split.{left}
 use Rattle.settlement.specs.declared.Book.{Book}
-use Rattle.settlement.specs.Book.{month_short}
-use Rattle.settlement.specs.Events.{Settled, Call, hour_call, next_targets, target_of, hour_charges, wants, fund, added_to, book_after}
+use Rattle.settlement.specs.Book.{month_short, fund_left}
+use Rattle.settlement.specs.Events.{Settled, Call, hour_call, next_targets, target_of, hour_charges, fund, left_over, added_to, book_after}
 use Rattle.settlement.specs.Ledger.{Entry, book_at, hour_count, month_end_count, year_end_count, positive_target, credit, hour_credit, charge, collection, of_all}
-use Rattle.settlement.proofs.Shares.{wanted, paid_to, unpaid, wants_long, added_at, unpaid_paid, paid_closes, left_most, hour_wanted, charge_is}
+use Rattle.settlement.proofs.Shares.{wanted, paid_to, unpaid, wants_long, added_at, unpaid_paid, paid_closes, left_is, hour_wanted, charge_is}
+use Rattle.settlement.proofs.Balances.{InBounds, Bounded, hour_in_bounds, longer_bounds}
 use Rattle.settlement.proofs.Sane.{Sane}
 use Rattle.settlement.proofs.Accepted.{HourAccepted}
-use Rattle.settlement.proofs.EntryParts.{Parts, over_next, since_next, all_is}
+use Rattle.settlement.proofs.EntryParts.{Parts, over_next, since_next, balance_next, balance_since_next, all_is}
 use Rattle.settlement.proofs.Kept.{Kept}
 
 -- a month end that is not due, though there is a next one, is still ahead
@@ -48,6 +49,17 @@ module _ (year : ℕ) (past : List Entry) (file : List ℕ) (prices : List ℤ) 
     within_year : book.months ≡ months_in_year → ⊥
     within_year e = omega (arith, kept.sane.full e, accepted.in_year)
 
+    balances_after : Bounded (book_after call book)
+    unfolding book_after
+    balances_after =
+        record {
+          month = hour_in_bounds book.hours book.monthbalance (fund call book) (left_over call book) kept.sane.bounded.month accepted.fund_bounded (left_is call book);
+          year = longer_bounds book.hours book.yearbalance kept.sane.bounded.year;
+          both =
+              subst (InBounds (book.hours + 1)) (omega (arith, ints))
+              (hour_in_bounds book.hours (fund_left book) (fund call book) (left_over call book) kept.sane.bounded.both accepted.fund_bounded (left_is call book));
+        }
+
     sane_after : Sane (book_after call book)
     unfolding book_after
     sane_after =
@@ -61,7 +73,7 @@ module _ (year : ℕ) (past : List Entry) (file : List ℕ) (prices : List ℤ) 
           full = λ e. absurd (within_year e);
           ended_full = kept.sane.ended_full;
           short_most = accepted.carry;
-          surplus_most = omega (arith, kept.sane.surplus_most, left_most call book, accepted.fund_most);
+          bounded = balances_after;
         }
 
     -- what the entry adds to each sum
@@ -74,15 +86,15 @@ module _ (year : ℕ) (past : List Entry) (file : List ℕ) (prices : List ℤ) 
     all_hour_credits : of_all hour_credit past hour_entry ≡ total (list_below (paid_to call book) owners)
     all_hour_credits = all_is hour_credit past hour_entry (paid_to call book) parts.hour_credits
 
-    pub brought : collection past hour_entry + of_all charge past hour_entry ≡ fund call book
+    pub brought : collection past hour_entry +ℤ pos (of_all charge past hour_entry) ≡ fund call book
     unfolding fund hour_charges
     brought =
-        ap (◌+ of_all charge past hour_entry) parts.collected
-        ∙ ap (positive collected +◌)
+        ap (λ (z : ℤ). z +ℤ pos (of_all charge past hour_entry)) parts.collected
+        ∙ ap (λ (n : ℕ). collected +ℤ pos n)
         (all_is charge past hour_entry (λ owner. negative (target_of (next_targets file prices book) owner))
         (λ owner inside. parts.charges owner inside ∙ charge_is file prices collected book owner inside))
 
-    closes : total (list_below (paid_to call book) owners) + left (fund call book) (wants call book) ≡ fund call book
+    closes : pos (total (list_below (paid_to call book) owners)) +ℤ left_over call book ≡ fund call book
     closes = paid_closes call book (wants_long call book kept.long)
 
     month_short_after : (owner : ℕ) → owner < owners
@@ -111,10 +123,10 @@ module _ (year : ℕ) (past : List Entry) (file : List ℕ) (prices : List ℤ) 
               (arith, month_short_after owner inside, kept.all_owner owner inside, over_next (credit owner) hour_entry past, over_next (positive_target year owner) hour_entry past, parts.credits owner inside, target_is owner inside, unpaid_paid call book owner inside);
           month_fund =
               omega
-              (arith, kept.month_fund, since_next (of_all hour_credit) hour_entry past parts.month, since_next collection hour_entry past parts.month, since_next (of_all charge) hour_entry past parts.month, all_hour_credits, brought, closes);
+              (arith, ints, kept.month_fund, since_next (of_all hour_credit) hour_entry past parts.month, balance_since_next collection hour_entry past parts.month, since_next (of_all charge) hour_entry past parts.month, all_hour_credits, brought, closes);
           all_fund =
               omega
-              (arith, kept.all_fund, over_next (of_all credit) hour_entry past, over_next collection hour_entry past, over_next (of_all charge) hour_entry past, parts.all_credits, brought, closes);
+              (arith, ints, kept.all_fund, over_next (of_all credit) hour_entry past, balance_next collection hour_entry past, over_next (of_all charge) hour_entry past, parts.all_credits, brought, closes);
           empty_month = λ e. absurd (within_year e);
           year_done = λ e. absurd (true≢false (sym e ∙ accepted.open_book));
         }

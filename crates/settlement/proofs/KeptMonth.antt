@@ -1,7 +1,7 @@
 -- An accepted month end keeps the tie between the book and its entries.
 -- Assumes nothing.
 use Prim.Native.Nat.{ℕ, ◌+◌, ◌≤◌, ◌<◌}
-use mathlib.Core.Path.{◌≡◌, refl, sym, ap, ◌∙◌}
+use mathlib.Core.Path.{◌≡◌, refl, sym, ap, subst, ◌∙◌}
 use mathlib.Core.Bool.{true, false, true≢false}
 use mathlib.Core.List.{List, ◌∷◌}
 use native.Mathlib.Nat.{le_of_eq}
@@ -9,7 +9,8 @@ use native.Mathlib.Numerals.{add-one}
 use native.Mathlib.Omega.{arith}
 use lib.Dec.{ltb, eqb}
 use lib.ListN.{get_or, replicate, get_or-replicate, length-replicate}
-use lib.IntN.{ℤ}
+use lib.IntN.{ℤ, pos, ◌+ℤ◌}
+use borrow.Author.Differences.{ints}
 use borrow.Author.Tests.{ltb-true, eqb-true}
 use Rattle.numbers.specs.Limits.{owners}
 use Rattle.numbers.specs.Lists.{total, list_below}
@@ -19,12 +20,13 @@ use Rattle.calendar.specs.Year.{months_in_year, month_end, is_month_end}
 use Rattle.calendar.proofs.MonthEnds.{months_rise, last_month}
 use Rattle.settlement.specs.declared.Book.{Book}
 use Rattle.settlement.specs.Book.{month_short, year_short}
-use Rattle.settlement.specs.Events.{Settled, month_end_call, wants, fund, paid, unpaid_of, added_to, book_after}
+use Rattle.settlement.specs.Events.{Settled, month_end_call, wants, fund, paid, left_over, unpaid_of, added_to, book_after}
 use Rattle.settlement.specs.Ledger.{Entry, book_at, hour_count, month_end_count, year_end_count, positive_target, credit, hour_credit, charge, collection, of_all}
 use Rattle.settlement.proofs.Paying.{unpaid_small, added_total}
-use Rattle.settlement.proofs.Shares.{paid_to, unpaid, left_over, wants_long, added_at, unpaid_paid, paid_closes, left_most}
+use Rattle.settlement.proofs.Shares.{paid_to, unpaid, wants_long, added_at, unpaid_paid, paid_closes, left_is}
+use Rattle.settlement.proofs.Balances.{InBounds, Bounded, nothing_in_bounds, left_in_bounds}
 use Rattle.settlement.proofs.Sane.{Sane}
-use Rattle.settlement.proofs.EntryParts.{Parts, over_next, since_closed, none_of_all}
+use Rattle.settlement.proofs.EntryParts.{Parts, over_next, since_closed, balance_next, balance_since_closed, none_of_all}
 use Rattle.settlement.proofs.Kept.{Kept}
 
 module _ (year : ℕ) (past : List Entry) (lent : List ℤ) (result : Settled) (written : List ℤ) where
@@ -53,6 +55,19 @@ module _ (year : ℕ) (past : List Entry) (lent : List ℤ) (result : Settled) (
     unfolding total
     no_cells = refl
 
+    -- the month's balance is paid out, and what is left goes to the year's
+    balances_after : Bounded (book_after month_end_call book)
+    unfolding book_after fund
+    balances_after =
+        let year =
+        left_in_bounds book.hours book.yearbalance book.monthbalance (left_over month_end_call book) kept.sane.bounded.year
+        (subst (InBounds book.hours) (omega (arith, ints)) kept.sane.bounded.both) (left_is month_end_call book) in
+        record {
+          month = nothing_in_bounds book.hours;
+          year = year;
+          both = subst (InBounds book.hours) (omega (arith, ints)) year;
+        }
+
     sane_after : Sane (book_after month_end_call book)
     unfolding book_after fund
     sane_after =
@@ -66,7 +81,7 @@ module _ (year : ℕ) (past : List Entry) (lent : List ℤ) (result : Settled) (
           full = λ e. due_parts.1 ∙ ap (month_end book.year) (eleven e) ∙ last_month book.year;
           ended_full = λ e. absurd (true≢false (sym e ∙ still_Open));
           short_most = omega (arith, no_cells, year_total, unpaid_total, kept.sane.short_most);
-          surplus_most = omega (arith, kept.sane.surplus_most, left_most month_end_call book);
+          bounded = balances_after;
         }
       where
         eleven : book.months + 1 ≡ months_in_year → book.months ≡ 11
@@ -86,7 +101,7 @@ module _ (year : ℕ) (past : List Entry) (lent : List ℤ) (result : Settled) (
     unfolding wants
     want_paid owner inside = unpaid_paid month_end_call book owner inside
 
-    fund_closes : total (list_below (paid_to month_end_call book) owners) + left_over month_end_call book ≡ book.monthsurplus
+    fund_closes : pos (total (list_below (paid_to month_end_call book) owners)) +ℤ left_over month_end_call book ≡ book.monthbalance
     unfolding fund
     fund_closes = paid_closes month_end_call book (wants_long month_end_call book kept.long)
 
@@ -114,10 +129,10 @@ module _ (year : ℕ) (past : List Entry) (lent : List ℤ) (result : Settled) (
               (arith, month_after owner inside, year_after owner inside, kept.all_owner owner inside, over_next (credit owner) month_entry past, over_next (positive_target year owner) month_entry past, parts.credits owner inside, parts.target owner, want_paid owner inside);
           month_fund =
               omega
-              (arith, since_closed (of_all hour_credit) month_entry past parts.month, since_closed collection month_entry past parts.month, since_closed (of_all charge) month_entry past parts.month);
+              (arith, ints, since_closed (of_all hour_credit) month_entry past parts.month, balance_since_closed collection month_entry past parts.month, since_closed (of_all charge) month_entry past parts.month);
           all_fund =
               omega
-              (arith, kept.all_fund, over_next (of_all credit) month_entry past, over_next collection month_entry past, over_next (of_all charge) month_entry past, parts.all_credits, parts.collected, no_charge, fund_closes);
+              (arith, ints, kept.all_fund, over_next (of_all credit) month_entry past, balance_next collection month_entry past, over_next (of_all charge) month_entry past, parts.all_credits, parts.collected, no_charge, fund_closes);
           empty_month = λ _. (month_after, refl);
           year_done = λ e. absurd (true≢false (sym e ∙ still_Open));
         }

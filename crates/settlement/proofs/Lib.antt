@@ -1,5 +1,6 @@
 pub mod Accepted
 pub mod Amounts
+pub mod Balances
 pub mod ClaimHolds
 pub mod Closing
 pub mod EntryParts
@@ -9,12 +10,13 @@ pub mod Kept
 pub mod KeptHour
 pub mod KeptMonth
 pub mod KeptYear
-pub mod LineSigns
 pub mod NeverStuck
 pub mod NotSpoiled
 pub mod OneLedger
 pub mod Opening
+pub mod OrdinaryYear
 pub mod Paying
+pub mod Payouts
 pub mod Refusing
 pub mod RunLaws
 pub mod SameCells

@@ -1,17 +1,19 @@
 -- What is so of a book that is not spoiled.
 -- Assumes nothing.
-use Prim.Native.Nat.{ℕ, ◌*◌, ◌≤◌}
-use mathlib.Core.Path.{◌≡◌}
+use Prim.Native.Nat.{ℕ, ◌≤◌}
+use mathlib.Core.Path.{◌≡◌, refl, sym, ap, ◌∙◌}
 use mathlib.Core.Bool.{Bool, false, not, ◌&&◌, ◌||◌}
 use native.Mathlib.Omega.{arith}
 use lib.Dec.{leb, ltb, eqb}
+use lib.IntN.{ℤ}
 use borrow.Author.Tests.{ltb-false}
 use Rattle.numbers.specs.Limits.{most_cents}
 use Rattle.numbers.proofs.Booleans.{neither_true}
 use Rattle.calendar.specs.Year.{hours_in_year, months_in_year, month_end}
 use Rattle.settlement.specs.declared.Book.{Book}
-use Rattle.settlement.specs.Book.{last_end, most_surplus, all_shortfalls, fund_left, out_of_step, is_spoiled}
+use Rattle.settlement.specs.Book.{last_end, all_shortfalls, fund_left, out_of_step, is_out_of_bounds, is_spoiled}
 use Rattle.calendar.proofs.AlmanacLaws.{most_hours, hours_most}
+use Rattle.settlement.proofs.Balances.{Bounded, in_bounds}
 
 -- hours and months in step are within the year
 module _ (year hours months : ℕ) (ended : Bool) (clear : out_of_step year hours months ended ≡ false) where
@@ -26,6 +28,9 @@ module _ (year hours months : ℕ) (ended : Bool) (clear : out_of_step year hour
   pub hours_within : hours ≤ hours_in_year year
   hours_within = ltb-false (hours_in_year year) hours (neither_true (ltb (hours_in_year year) hours) (ltb months_in_year months) within).0
 
+  pub hours_few : hours ≤ most_hours
+  hours_few = omega (arith, hours_most year, hours_within)
+
   pub months_within : months ≤ months_in_year
   months_within = ltb-false months_in_year months (neither_true (ltb (hours_in_year year) hours) (ltb months_in_year months) within).1
 
@@ -36,21 +41,45 @@ module _ (book : Book) where
   abbrev is_over : Bool
   is_over = ltb most_cents (all_shortfalls book)
 
+  abbrev is_off : ℤ → Bool
+  is_off balance = is_out_of_bounds book.hours balance
+
   -- a book that is not spoiled
   module _ (sound : is_spoiled book ≡ false) where
-    clauses : (is_astray || is_over || ltb (book.hours * most_surplus) (fund_left book)) ≡ false
+    clauses : (is_astray || is_over || is_off book.monthbalance || is_off book.yearbalance || is_off (fund_left book)) ≡ false
     unfolding is_spoiled
     clauses = sound
 
+    -- but for the two balances together, and but for each
+    each_clear : ((is_astray || is_over || is_off book.monthbalance || is_off book.yearbalance) ≡ false) × (is_off (fund_left book) ≡ false)
+    each_clear = neither_true (is_astray || is_over || is_off book.monthbalance || is_off book.yearbalance) (is_off (fund_left book)) clauses
+
+    month_clear : ((is_astray || is_over || is_off book.monthbalance) ≡ false) × (is_off book.yearbalance ≡ false)
+    month_clear = neither_true (is_astray || is_over || is_off book.monthbalance) (is_off book.yearbalance) each_clear.0
+
+    early_clear : ((is_astray || is_over) ≡ false) × (is_off book.monthbalance ≡ false)
+    early_clear = neither_true (is_astray || is_over) (is_off book.monthbalance) month_clear.0
+
     pub in_step : is_astray ≡ false
-    in_step = (neither_true is_astray is_over (neither_true (is_astray || is_over) _ clauses).0).0
+    in_step = (neither_true is_astray is_over early_clear.0).0
 
     pub shortfalls_within : all_shortfalls book ≤ most_cents
-    shortfalls_within =
-        ltb-false most_cents (all_shortfalls book) (neither_true is_astray is_over (neither_true (is_astray || is_over) _ clauses).0).1
+    shortfalls_within = ltb-false most_cents (all_shortfalls book) (neither_true is_astray is_over early_clear.0).1
 
-    -- the surpluses leave room for more
-    pub surplus_within : fund_left book ≤ most_hours * most_surplus
-    surplus_within =
-        omega
-        (arith, hours_most book.year, hours_within book.year book.hours book.months book.ended in_step, ltb-false (book.hours * most_surplus) (fund_left book) (neither_true (is_astray || is_over) _ clauses).1)
+    pub balances_within : Bounded book
+    balances_within =
+        record {
+          month = in_bounds book.hours book.monthbalance early_clear.1;
+          year = in_bounds book.hours book.yearbalance month_clear.1;
+          both = in_bounds book.hours (fund_left book) each_clear.1;
+        }
+
+    pub few_hours : book.hours ≤ most_hours
+    few_hours = hours_few book.year book.hours book.months book.ended in_step
+
+  -- where nothing but the two balances together is left to be looked at, they decide; from the parts that the code has worked out
+  pub by_both : {month year both : ℤ} {off : Bool} → month ≡ book.monthbalance → year ≡ book.yearbalance → both ≡ fund_left book
+      → is_astray ≡ false → is_over ≡ false → is_off month ≡ false → is_off year ≡ false → off ≡ is_off both → off ≡ is_spoiled book
+  unfolding is_spoiled
+  by_both m y b astray over month_clear year_clear is =
+      is ∙ ap is_off b ∙ rw (astray, over, ap is_off (sym m) ∙ month_clear, ap is_off (sym y) ∙ year_clear) refl

@@ -6,16 +6,17 @@ use mathlib.Core.Bool.{false}
 use mathlib.Core.List.{List}
 use native.Mathlib.Omega.{arith}
 use lib.ListN.{length, get_or}
+use lib.IntN.{ℤ}
 use Rattle.numbers.specs.Limits.{owners, most_cents}
 use Rattle.numbers.specs.Lists.{total}
 use Rattle.numbers.proofs.Refusals.{has_number, refusal_never}
 use Rattle.numbers.proofs.Counts.{get_or_le_total, list_of_elements, total_add, total_mono}
-use Rattle.split.specs.Split.{payments, left, split_refusal}
+use Rattle.split.specs.Split.{split_refusal}
 use Rattle.split.proofs.Answers.{accepted, scope_rows, widest_table}
-use Rattle.split.proofs.Laws.{payments_at_most, closes}
 use Rattle.settlement.specs.declared.payment.Paid.{Paid}
-use Rattle.settlement.specs.Events.{hall, unpaid_of, added_to}
+use Rattle.settlement.specs.Events.{hall, payout, unpaid_of, added_to}
 use Rattle.settlement.specs.InnerContracts.{paid_from}
+use Rattle.settlement.proofs.Payouts.{payout_at_most}
 
 -- what is unpaid is no more than what was wanted
 pub unpaid_small : (wants payments : List ℕ) → length wants ≡ owners → total (unpaid_of wants payments) ≤ total wants
@@ -44,27 +45,25 @@ never_of_the_pool wants places = (never 16 (omega arith) refl, never 17 (omega a
     never number some none e = refusal_never number (scope_rows wants places) some none (sym (widest_table wants places) ∙ e)
 
 -- payments, what is left and what is unpaid, put together
-pub put_together : (fund : ℕ) (wants : List ℕ) (demand rest : ℕ) (paid unpaid : List ℕ) → demand ≡ total wants → rest ≡ left fund wants
-    → paid ≡ payments fund wants → unpaid ≡ unpaid_of wants paid
+pub put_together : {fund : ℤ} (wants : List ℕ) {given : ℤ} {demand : ℕ} {rest : ℤ} {paid unpaid : List ℕ} → given ≡ fund → demand ≡ total wants
+    → rest ≡ (payout given wants).left → paid ≡ (payout given wants).payments → unpaid ≡ unpaid_of wants paid
     → ◌≡◌ {A = Paid}
-    (record { funding = record { fund = fund; demand = demand }; left = rest; payments = paid; unpaid = unpaid })
+    (record { funding = record { fund = given; demand = demand }; left = rest; payments = paid; unpaid = unpaid })
     (paid_from fund wants)
-put_together fund wants demand rest paid unpaid d l p u =
+put_together wants f d l p u =
+    let payments = p ∙ ap (λ (z : ℤ). (payout z wants).payments) f in
     λ i.
     record {
-      funding = record { fund = fund; demand = d i };
-      left = l i;
-      payments = p i;
-      unpaid = (u ∙ ap (unpaid_of wants) p) i;
+      funding = record { fund = f i; demand = d i };
+      left = (l ∙ ap (λ (z : ℤ). (payout z wants).left) f) i;
+      payments = payments i;
+      unpaid = (u ∙ ap (unpaid_of wants) payments) i;
     }
 
--- no payment and nothing left is above what there was
-module _ (fund : ℕ) (wants : List ℕ) where
-  pub payment_small : (most : ℕ) → total wants ≤ most → (i : ℕ) → get_or (payments fund wants) i 0 ≤ most
-  payment_small most within i = omega (arith, payments_at_most fund wants i, get_or_le_total wants i)
+-- no payment is above what there was to want
+module _ (fund : ℤ) (wants : List ℕ) where
+  pub payment_small : (most : ℕ) → total wants ≤ most → (i : ℕ) → get_or (payout fund wants).payments i 0 ≤ most
+  payment_small most within i = omega (arith, payout_at_most fund wants i, get_or_le_total wants i)
 
   pub paid_small : {paid : Paid} → paid ≡ paid_from fund wants → total wants ≤ most_cents → (i : ℕ) → get_or paid.payments i 0 ≤ most_cents
   paid_small p within i = rw p (payment_small most_cents within i)
-
-  pub left_small : left fund wants ≤ fund
-  left_small = omega (arith, closes fund wants)

@@ -9,7 +9,7 @@ use native.Mathlib.Decide.{ℕ_discrete}
 use native.Mathlib.Omega.{arith}
 use lib.Dec.{leb, ltb, eqb}
 use lib.ListN.{length}
-use lib.IntN.{ℤ}
+use lib.IntN.{ℤ, pos}
 use borrow.Author.Tests.{leb-false, lt-ltb, eqb-true, ltb-true, not-false}
 use Rattle.numbers.specs.Limits.{owners}
 use Rattle.numbers.specs.Lists.{IsLowest}
@@ -324,7 +324,7 @@ module _ (call : Call) (book : Book) (lent : List ℤ) where
             record {
               refusal = (back ∙ e) i;
               faulty = (named ∙ names ∙ ap (record_of call book.year) e) i;
-              fund = sym (answer_refused _ (fund call book) 0 none) i;
+              fund = sym (answer_refused _ (fund call book) (pos 0) none) i;
               demand = sym (answer_refused _ (demand call book) 0 none) i;
               book = sym (answer_refused _ (book_after call book) book none) i;
             };
@@ -358,7 +358,7 @@ module _ (call : Call) (book : Book) (lent : List ℤ) where
             record {
               refusal = sym z i;
               faulty = sym (record_none call book.year (refusal call book (length lent)) (omega (arith, z))) i;
-              fund = (ap (λ (x : Funding). x.fund) f ∙ sym (answer_accepted _ (fund call book) 0 z)) i;
+              fund = (ap (λ (x : Funding). x.fund) f ∙ sym (answer_accepted _ (fund call book) (pos 0) z)) i;
               demand = (ap (λ (x : Funding). x.demand) f ∙ sym (answer_accepted _ (demand call book) 0 z)) i;
               book = (b ∙ sym (answer_accepted _ (book_after call book) book z)) i;
             };
@@ -373,7 +373,7 @@ module _ {call : Call} {book : Book} {lent : List ℤ} {result : Settled} {after
   pub gives_record : result.faulty ≡ record_of call book.year (refusal call book (length lent))
   gives_record = ap (λ (r : Settled). r.faulty) answered.gives
 
-  pub gives_fund : result.fund ≡ answer_by (refusal call book (length lent)) (fund call book) 0
+  pub gives_fund : result.fund ≡ answer_by (refusal call book (length lent)) (fund call book) (pos 0)
   gives_fund = ap (λ (r : Settled). r.fund) answered.gives
 
   pub gives_demand : result.demand ≡ answer_by (refusal call book (length lent)) (demand call book) 0

@@ -12,7 +12,7 @@ use Rattle.numbers.specs.Signs.{positive, negative}
 use Rattle.numbers.proofs.Counts.{length_list_below, get_or_list_below, total_add}
 use Rattle.settlement.specs.declared.Book.{Book}
 use Rattle.settlement.specs.Events.{Call, hour_call, month_end_call, year_end_call, hour_lines, payment_lines, lines, Answered}
-use Rattle.settlement.specs.Ledger.{Entry, book_at, IsLedger, at_hour, year_end_count, sum_over, line_of, credit, charge, of_all}
+use Rattle.settlement.specs.Ledger.{Entry, book_at, IsLedger, at_hour, year_end_count, over, sum_over, balance_over, line_of, credit, charge, of_all}
 use Rattle.settlement.proofs.Shares.{credit_is}
 use Rattle.settlement.proofs.EntryParts.{by_table_lem, written_is, accepted_parts}
 use Rattle.settlement.proofs.ClaimHolds.{kept_all}
@@ -23,13 +23,17 @@ use mathlib.Core.Bool.{false}
 -- ---- sums
 
 pub over_none : (part : List Entry → Entry → ℕ) → sum_over part [] ≡ 0
-unfolding sum_over
+unfolding over
 over_none part = refl
+
+pub balance_over_none : (part : List Entry → Entry → ℤ) → balance_over part [] ≡ pos 0
+unfolding over
+balance_over_none part = refl
 
 -- the sum of all owners together is the owners' sums together
 pub over_all : (part : ℕ → List Entry → Entry → ℕ) (ledger : List Entry)
     → sum_over (of_all part) ledger ≡ total (list_below (λ owner. sum_over (part owner) ledger) owners)
-unfolding sum_over of_all
+unfolding over of_all
 over_all part [] = unfold total list_below in refl
 over_all part (entry ∷ past) =
     ap (λ (n : ℕ). total (list_below (λ owner. part owner past entry) owners) + n) (over_all part past)

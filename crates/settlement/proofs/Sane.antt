@@ -1,6 +1,6 @@
 -- A book that is not spoiled, part by part.
 -- Assumes nothing.
-use Prim.Native.Nat.{◌*◌, ◌≤◌, ◌<◌}
+use Prim.Native.Nat.{◌≤◌, ◌<◌}
 use mathlib.Core.Path.{◌≡◌, refl}
 use mathlib.Core.Bool.{Bool, true, false, not, ◌&&◌}
 use native.Mathlib.Omega.{arith}
@@ -10,7 +10,8 @@ use Rattle.numbers.specs.Limits.{most_cents}
 use Rattle.calendar.specs.Almanac.{is_outside}
 use Rattle.calendar.specs.Year.{hours_in_year, months_in_year, month_end}
 use Rattle.settlement.specs.declared.Book.{Book}
-use Rattle.settlement.specs.Book.{all_shortfalls, fund_left, most_surplus, last_end, off_month, out_of_step, is_spoiled}
+use Rattle.settlement.specs.Book.{all_shortfalls, fund_left, last_end, off_month, out_of_step, is_spoiled}
+use Rattle.settlement.proofs.Balances.{Bounded, bounds_clear}
 
 pub record Sane (book : Book) : Type 0 where
   pub in_range : is_outside book.year ≡ false
@@ -21,7 +22,7 @@ pub record Sane (book : Book) : Type 0 where
   pub full : book.months ≡ months_in_year → book.hours ≡ hours_in_year book.year
   pub ended_full : book.ended ≡ true → book.months ≡ months_in_year
   pub short_most : all_shortfalls book ≤ most_cents
-  pub surplus_most : fund_left book ≤ book.hours * most_surplus
+  pub bounded : Bounded book
 
 module _ (book : Book) (sane : Sane book) where
   on_month : off_month book.year book.hours book.months ≡ false
@@ -52,4 +53,4 @@ module _ (book : Book) (sane : Sane book) where
   unfolding is_spoiled out_of_step
   not_spoiled =
       rw
-      (le-ltb (hours_in_year book.year) book.hours sane.hours_most, le-ltb months_in_year book.months sane.months_most, on_month, whole_year, ended_whole, le-ltb most_cents (all_shortfalls book) sane.short_most, le-ltb (book.hours * most_surplus) (fund_left book) sane.surplus_most)
+      (le-ltb (hours_in_year book.year) book.hours sane.hours_most, le-ltb months_in_year book.months sane.months_most, on_month, whole_year, ended_whole, le-ltb most_cents (all_shortfalls book) sane.short_most, bounds_clear book.hours book.monthbalance sane.bounded.month, bounds_clear book.hours book.yearbalance sane.bounded.year, bounds_clear book.hours (fund_left book) sane.bounded.both)

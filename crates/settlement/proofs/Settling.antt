@@ -1,12 +1,12 @@
 -- An hour on a book: refused by the rows of every event, by its input or by its size, or settled.
 -- Assumes nothing.
 use Prim.Native.Nat.{ℕ, ◌+◌, ◌≤◌, ◌<◌, ◌^◌}
-use mathlib.Core.Path.{◌≡◌, refl, sym, ap, ap₂, ◌∙◌}
+use mathlib.Core.Path.{◌≡◌, refl, sym, ap, ap₂, subst, ◌∙◌}
 use mathlib.Core.Bool.{false}
 use mathlib.Core.List.{List}
 use native.Mathlib.Omega.{arith}
 use lib.ListN.{length, get_or}
-use lib.IntN.{ℤ}
+use lib.IntN.{ℤ, ◌+ℤ◌}
 use Rattle.std.proofs.Common.{w64, FitsSigned, to_z, of_z}
 use Rattle.std.proofs.lemmas.Int.{to_z-of_z}
 use Rattle.std.specs.Prelude.{Result, Ok, Err}
@@ -14,7 +14,6 @@ use Rattle.numbers.specs.declared.refusal.Refusal.{Refusal}
 use Rattle.numbers.specs.Limits.{owners, most_cents}
 use Rattle.numbers.specs.Lists.{total}
 use Rattle.numbers.specs.Refusals.{answered, first_refusal}
-use Rattle.numbers.specs.Signs.{positive}
 use Rattle.numbers.proofs.Refusals.{refusal_never, answered_err, answered_ok}
 use Rattle.calendar.specs.Almanac.{is_outside}
 use Rattle.calendar.specs.Year.{hours_in_year}
@@ -24,15 +23,15 @@ use Rattle.target.specs.Target.{targets}
 use Rattle.settlement.specs.declared.Book.{Book}
 use Rattle.settlement.specs.declared.Event.TheVariants.{Hour}
 use Rattle.settlement.specs.declared.payment.Shares.{Shares}
-use Rattle.settlement.specs.Book.{is_spoiled, all_shortfalls, most_collected}
-use Rattle.settlement.specs.Events.{Call, hour_call, next_targets, hour_wants, hour_charges, hour_fund, wants, fund, demand, hour_lines, lines, book_after_hour, book_after, event_rows, input_rows, size_rows, refusal, record_of, result_of, Answered}
+use Rattle.settlement.specs.Book.{is_spoiled, all_shortfalls}
+use Rattle.settlement.specs.Events.{Call, hour_call, next_targets, hour_wants, hour_charges, hour_fund, wants, fund, demand, hour_lines, lines, book_after_hour, book_after, is_wild_amount, event_rows, input_rows, size_rows, refusal, record_of, result_of, Answered}
 use Rattle.settlement.specs.InnerContracts.{shares_of}
-use Rattle.settlement.proofs.NotSpoiled.{shortfalls_within, surplus_within}
-use Rattle.settlement.proofs.LineSigns.{amount_most}
-use Rattle.settlement.proofs.Paying.{payment_small, left_small}
+use Rattle.settlement.proofs.NotSpoiled.{shortfalls_within, balances_within, few_hours}
+use Rattle.settlement.proofs.Balances.{IsLeft, hour_in_bounds, fund_in_bounds, bounds_fit}
+use Rattle.settlement.proofs.Paying.{payment_small}
+use Rattle.settlement.proofs.Payouts.{left_between}
 use Rattle.settlement.proofs.SharingOut.{size_clear}
 use Rattle.settlement.proofs.Refusing.{record_other, event_names_none, event_clear, in_turn, from_event, from_own, calm_amount, own_input, own_size, refused_answer, accepted_answer}
-use Rattle.calendar.proofs.AlmanacLaws.{hours_most}
 
 -- what the rows of every event, the hour's input and its size answer
 abbrev event_answer : Book → ℕ → Result (Unit {0}) Refusal
@@ -44,7 +43,7 @@ input_answer year file prices hour collected =
     (faulty_record year (length prices) file (first_refusal (input_rows year file prices collected)))
     (targets year file prices hour)
 
-abbrev size_answer : Book → ℕ → List ℤ → Result Shares Refusal
+abbrev size_answer : Book → ℤ → List ℤ → Result Shares Refusal
 size_answer book collected found =
     answered (first_refusal (size_rows book (hour_fund collected found) (hour_wants found) (hour_charges found))) 0
     (shares_of book collected found)
@@ -64,18 +63,17 @@ begun book lent is ok =
     let clear = event_clear Hour book (length lent) none in
     record { none = none; sound = clear.0; within = clear.4; inside = (in_turn book clear.2).1; long = clear.3 }
 
--- that its input lets pass too: its targets, and the amount collected
-pub record Aimed (file : List ℕ) (prices : List ℤ) (collected : ℤ) (book : Book) (lent : List ℤ) (found : List ℤ) (amount : ℕ) : Type 0 where
+-- that its input lets pass too: its targets
+pub record Aimed (file : List ℕ) (prices : List ℤ) (collected : ℤ) (book : Book) (lent : List ℤ) (found : List ℤ) : Type 0 where
   pub start : Begun book lent
   pub given : first_refusal (input_rows book.year file prices collected) ≡ 0
   pub found_is : found ≡ next_targets file prices book
-  pub amount_is : amount ≡ positive collected
 
 -- and its size: its shares
-pub record Dealt (file : List ℕ) (prices : List ℤ) (collected : ℤ) (book : Book) (lent : List ℤ) (found : List ℤ) (amount : ℕ) (shares : Shares) : Type 0 where
-  pub aim : Aimed file prices collected book lent found amount
-  pub fits : first_refusal (size_rows book (hour_fund amount found) (hour_wants found) (hour_charges found)) ≡ 0
-  pub shares_are : shares ≡ shares_of book amount found
+pub record Dealt (file : List ℕ) (prices : List ℤ) (collected : ℤ) (book : Book) (lent : List ℤ) (found : List ℤ) (shares : Shares) : Type 0 where
+  pub aim : Aimed file prices collected book lent found
+  pub fits : first_refusal (size_rows book (hour_fund collected found) (hour_wants found) (hour_charges found)) ≡ 0
+  pub shares_are : shares ≡ shares_of book collected found
 
 module _ (file : List ℕ) (prices : List ℤ) (collected : ℤ) (book : Book) (lent : List ℤ) where
   abbrev event : Call
@@ -108,63 +106,68 @@ module _ (file : List ℕ) (prices : List ℤ) (collected : ℤ) (book : Book) (
         ∙ sym (from_own event book (length lent) start.none))
         refl
 
-    pub aimed : {found : List ℤ} {amount : ℕ} → outcome ≡ Ok found → amount ≡ positive (to_z w64 (of_z w64 collected))
-        → Aimed file prices collected book lent found amount
-    aimed ok a =
-        let given = answered_ok _ _ _ (sym asked ∙ ok) in
-        record { start = start; given = given.0; found_is = given.1; amount_is = a ∙ ap positive (to_z-of_z w64 _ fits) }
+    pub aimed : {found : List ℤ} → outcome ≡ Ok found → Aimed file prices collected book lent found
+    aimed ok = let given = answered_ok _ _ _ (sym asked ∙ ok) in record { start = start; given = given.0; found_is = given.1 }
 
 -- an hour with its targets
-module _ {file : List ℕ} {prices : List ℤ} {collected : ℤ} {book : Book} {lent : List ℤ} {found : List ℤ} {amount : ℕ} (aim : Aimed file prices collected book lent found amount) where
-  pub may_share : (all_shortfalls book ≤ most_cents) × (amount ≤ most_collected)
-  may_share =
-      let most = amount_most collected (calm_amount book.year file prices collected aim.given) in
-      (shortfalls_within book aim.start.sound, omega (arith, aim.amount_is))
+module _ {file : List ℕ} {prices : List ℤ} {collected : ℤ} {book : Book} {lent : List ℤ} {found : List ℤ} (aim : Aimed file prices collected book lent found) where
+  calm : is_wild_amount collected ≡ false
+  calm = calm_amount book.year file prices collected aim.given
 
   abbrev size : ℕ
-  size = first_refusal (size_rows book (hour_fund amount found) (hour_wants found) (hour_charges found))
+  size = first_refusal (size_rows book (hour_fund collected found) (hour_wants found) (hour_charges found))
 
   size_is : size ≡ refusal (hour_call file prices collected) book (length lent)
   unfolding fund wants
   size_is =
-      ap₂ (λ (x : ℕ) (ts : List ℤ). first_refusal (size_rows book (hour_fund x ts) (hour_wants ts) (hour_charges ts))) aim.amount_is aim.found_is
+      ap (λ (ts : List ℤ). first_refusal (size_rows book (hour_fund collected ts) (hour_wants ts) (hour_charges ts))) aim.found_is
       ∙ sym (from_own (hour_call file prices collected) book (length lent) aim.start.none ∙ own_size file prices collected book aim.given)
 
   size_names : 0 ≡ record_of (hour_call file prices collected) book.year size
   unfolding record_of size_rows
   size_names = sym (faulty_other _ _ _ _ (λ e. refusal_never 7 _ (omega arith) refl e) (λ e. refusal_never 8 _ (omega arith) refl e))
 
-  module _ {outcome : Result Shares Refusal} (is : outcome ≡ size_answer book amount found) where
-    -- refused by its size
-    pub refused_size : {why : Refusal} → outcome ≡ Err why
-        → Answered (hour_call file prices collected) book lent (result_of (Err why) book) lent
-    refused_size err = refused_answer (hour_call file prices collected) book lent _ 0 _ (sym is ∙ err) size_is size_names
+  module _ (fits : FitsSigned w64 collected) where
+    pub may_share : (all_shortfalls book ≤ most_cents) × (is_wild_amount (to_z w64 (of_z w64 collected)) ≡ false)
+    may_share = (shortfalls_within book aim.start.sound, ap is_wild_amount (to_z-of_z w64 _ fits) ∙ calm)
 
-    pub dealt : {shares : Shares} → outcome ≡ Ok shares → Dealt file prices collected book lent found amount shares
-    dealt ok = let shared = answered_ok _ 0 _ (sym is ∙ ok) in record { aim = aim; fits = shared.0; shares_are = shared.1 }
+    module _ {outcome : Result Shares Refusal} (is : outcome ≡ size_answer book (to_z w64 (of_z w64 collected)) found) where
+      shared : outcome ≡ size_answer book collected found
+      shared = is ∙ ap (λ (z : ℤ). size_answer book z found) (to_z-of_z w64 _ fits)
+
+      -- refused by its size
+      pub refused_size : {why : Refusal} → outcome ≡ Err why
+          → Answered (hour_call file prices collected) book lent (result_of (Err why) book) lent
+      refused_size err = refused_answer (hour_call file prices collected) book lent _ 0 _ (sym shared ∙ err) size_is size_names
+
+      pub dealt : {shares : Shares} → outcome ≡ Ok shares → Dealt file prices collected book lent found shares
+      dealt ok = let given = answered_ok _ 0 _ (sym shared ∙ ok) in record { aim = aim; fits = given.0; shares_are = given.1 }
 
 -- an hour with its shares
-module _ {file : List ℕ} {prices : List ℤ} {collected : ℤ} {book : Book} {lent : List ℤ} {found : List ℤ} {amount : ℕ} {shares : Shares} (deal : Dealt file prices collected book lent found amount shares) where
+module _ {file : List ℕ} {prices : List ℤ} {collected : ℤ} {book : Book} {lent : List ℤ} {found : List ℤ} {shares : Shares} (deal : Dealt file prices collected book lent found shares) where
   small : (total (hour_wants found) ≤ most_cents) × (hour_charges found ≤ most_cents)
   small = let clear = size_clear _ _ _ _ deal.fits in (clear.0, clear.1)
 
   pub payments_small : (i : ℕ) → get_or shares.paid.payments i 0 ≤ most_cents
   payments_small i = rw deal.shares_are (payment_small _ _ most_cents small.0 i)
 
-  pub has_room : (book.hours + 1 < 2 ^ 64) × (book.monthsurplus + book.yearsurplus + shares.paid.left < 2 ^ 64)
+  pub has_room : (book.hours + 1 < 2 ^ 64) × FitsSigned w64 (book.monthbalance +ℤ shares.paid.left)
   has_room =
-      let inside = deal.aim.start.inside in
+      let bounded = balances_within book deal.aim.start.sound in
+      let few = few_hours book deal.aim.start.sound in
       let rest = ap (λ (x : Shares). x.paid.left) deal.shares_are in
-      let part = left_small (hour_fund amount found) (hour_wants found) in
-      let before = surplus_within book deal.aim.start.sound in
-      (omega (arith, hours_most book.year), omega (arith, small.1, (may_share deal.aim).1))
+      let left =
+      hour_in_bounds book.hours book.monthbalance (hour_fund collected found) shares.paid.left bounded.month
+      (fund_in_bounds collected (hour_charges found) (calm deal.aim) small.1)
+      (subst (IsLeft (hour_fund collected found)) (sym rest) (left_between (hour_fund collected found) (hour_wants found))) in
+      (omega arith, bounds_fit (book.hours + 1) (book.monthbalance +ℤ shares.paid.left) (omega arith) left)
 
   pub settled_hour : {after : List ℤ} {next : Book} → after ≡ hour_lines found shares.paid.payments
       → next ≡ book_after_hour book shares.monthshort shares.paid.left
       → Answered (hour_call file prices collected) book lent (result_of (Ok shares.paid.funding) next) after
   unfolding fund demand wants lines book_after
   settled_hour written b =
-      let shared = deal.shares_are ∙ ap₂ (shares_of book) deal.aim.amount_is deal.aim.found_is in
+      let shared = deal.shares_are ∙ ap (shares_of book collected) deal.aim.found_is in
       accepted_answer (hour_call file prices collected) book lent _ _ _ (sym (size_is deal.aim) ∙ deal.fits)
       (ap (λ (x : Shares). x.paid.funding) shared)
       (b ∙ ap (λ (x : Shares). book_after_hour book x.monthshort x.paid.left) shared)

@@ -1,20 +1,21 @@
 -- What the split's laws say of an event: what it pays, what stays unpaid, what is left; for any call and any book.
 -- Assumes nothing.
 use Prim.Native.Nat.{ℕ, ◌+◌, ◌-◌, ◌≤◌, ◌<◌}
-use mathlib.Core.Path.{◌≡◌, refl, sym, ap, subst, ◌∙◌}
+use mathlib.Core.Path.{◌≡◌, refl, sym, ap, ◌∙◌}
 use mathlib.Core.List.{List}
 use native.Mathlib.Omega.{arith}
 use lib.ListN.{length, get_or}
-use lib.IntN.{ℤ, pos, negsuc}
+use lib.IntN.{ℤ, pos, negsuc, ◌+ℤ◌}
+use lib.Signed.{◌≤ℤ◌, ◌<ℤ◌}
 use Rattle.numbers.specs.Limits.{owners}
 use Rattle.numbers.specs.Lists.{total, list_below}
 use Rattle.numbers.specs.Signs.{positive, negative}
 use Rattle.numbers.proofs.Counts.{get_or_list_below, list_of_elements}
-use Rattle.split.specs.Split.{WithinACent, left}
-use Rattle.split.proofs.Laws.{payments_length, payment_at, payments_at_most, closes, closes_enough, nothing_left, within_a_cent}
 use Rattle.settlement.specs.declared.Book.{Book}
-use Rattle.settlement.specs.Events.{Call, hour_call, month_end_call, year_end_call, next_targets, target_of, hour_wants, wants, fund, demand, paid, hour_line, hour_lines, payment_lines, lines, unpaid_of, added_to}
-use Rattle.settlement.proofs.Paying.{left_small}
+use Rattle.settlement.specs.Events.{Call, hour_call, month_end_call, year_end_call, next_targets, target_of, hour_wants, wants, fund, demand, paid, left_over, hour_line, hour_lines, payment_lines, lines, unpaid_of, added_to}
+use Rattle.settlement.specs.Claim.{IsNear}
+use Rattle.settlement.proofs.Balances.{IsLeft}
+use Rattle.settlement.proofs.Payouts.{payout_length, payout_at_most, payout_closes, payout_enough, payout_short, payout_near, left_between}
 use Rattle.settlement.proofs.SharingOut.{wants_length}
 
 -- what an owner wants and is paid
@@ -24,12 +25,9 @@ wanted call book owner = get_or (wants call book) owner 0
 abbrev pub paid_to : Call → Book → ℕ → ℕ
 paid_to call book owner = get_or (paid call book) owner 0
 
--- what stays unpaid of the wants, and what is left of the fund
+-- what stays unpaid of the wants
 abbrev pub unpaid : Call → Book → List ℕ
 unpaid call book = unpaid_of (wants call book) (paid call book)
-
-abbrev pub left_over : Call → Book → ℕ
-left_over call book = left (fund call book) (wants call book)
 
 -- the wants have a place for each owner where the book's cells do
 pub record IsLong (book : Book) : Type 0 where
@@ -50,7 +48,7 @@ added_at cells more owner inside = get_or_list_below (λ o. get_or cells o 0 + g
 
 module _ (call : Call) (book : Book) where
   pub paid_most : (owner : ℕ) → paid_to call book owner ≤ wanted call book owner
-  paid_most owner = payments_at_most (fund call book) (wants call book) owner
+  paid_most owner = payout_at_most (fund call book) (wants call book) owner
 
   pub unpaid_paid : (owner : ℕ) → owner < owners → get_or (unpaid call book) owner 0 + paid_to call book owner ≡ wanted call book owner
   unfolding unpaid_of
@@ -58,38 +56,34 @@ module _ (call : Call) (book : Book) where
       let here = get_or_list_below (λ o. get_or (wants call book) o 0 - get_or (paid call book) o 0) owners 0 owner inside in
       omega (arith, paid_most owner)
 
-  pub left_most : left_over call book ≤ fund call book
-  left_most = left_small (fund call book) (wants call book)
+  pub left_is : IsLeft (fund call book) (left_over call book)
+  left_is = left_between (fund call book) (wants call book)
 
-  -- every want is paid, or nothing is left
-  pub all_paid : demand call book ≤ fund call book → (owner : ℕ) → owner < owners → get_or (unpaid call book) owner 0 ≡ 0
+  -- every want is paid, or no more than nothing is left
+  pub all_paid : pos (demand call book) ≤ℤ fund call book → (owner : ℕ) → owner < owners → get_or (unpaid call book) owner 0 ≡ 0
   unfolding demand
   all_paid enough owner inside =
-      let same = ap (λ (ps : List ℕ). get_or ps owner 0) (closes_enough (fund call book) (wants call book) enough).0 in
+      let same = ap (λ (ps : List ℕ). get_or ps owner 0) (payout_enough (fund call book) (wants call book) enough) in
       omega (arith, unpaid_paid owner inside)
 
-  pub none_left : fund call book < demand call book → left_over call book ≡ 0
+  pub none_left : fund call book <ℤ pos (demand call book) → left_over call book ≤ℤ pos 0
   unfolding demand
-  none_left short = nothing_left (fund call book) (wants call book) short
+  none_left short = payout_short (fund call book) (wants call book) short
 
   module _ (long : length (wants call book) ≡ owners) where
     -- payments and what is left make up the fund
-    pub paid_closes : total (list_below (paid_to call book) owners) + left_over call book ≡ fund call book
+    pub paid_closes : pos (total (list_below (paid_to call book) owners)) +ℤ left_over call book ≡ fund call book
     paid_closes =
-        let all = list_of_elements (paid call book) 0 (payments_length (fund call book) (wants call book) ∙ long) in
-        omega (arith, ap total all, closes (fund call book) (wants call book))
+        let all = list_of_elements (paid call book) 0 (payout_length (fund call book) (wants call book) ∙ long) in
+        ap (λ (ps : List ℕ). pos (total ps) +ℤ left_over call book) all ∙ payout_closes (fund call book) (wants call book)
 
     pub demand_of_all : demand call book ≡ total (list_below (wanted call book) owners)
     unfolding demand
     demand_of_all = ap total (sym (list_of_elements (wants call book) 0 long))
 
-    pub near : (owner : ℕ) → owner < owners
-        → WithinACent (fund call book) (demand call book) (wanted call book owner) (paid_to call book owner)
+    pub near : (owner : ℕ) → owner < owners → IsNear (fund call book) (demand call book) (wanted call book owner) (paid_to call book owner)
     unfolding demand
-    near owner inside =
-        subst (WithinACent (fund call book) (total (wants call book)) (wanted call book owner))
-        (sym (payment_at (fund call book) (wants call book) owner (omega arith)))
-        (within_a_cent (fund call book) (wants call book) owner)
+    near owner inside = payout_near (fund call book) (wants call book) owner (omega arith)
 
 -- ---- the lines
 

@@ -7,7 +7,7 @@ use mathlib.Core.List.{List}
 use native.Mathlib.Omega.{arith}
 use lib.Dec.{ltb}
 use lib.ListN.{length}
-use lib.IntN.{ℤ}
+use lib.IntN.{ℤ, pos, ◌+ℤ◌}
 use borrow.Author.Tests.{ltb-false, lt-ltb, le-ltb}
 use Rattle.numbers.specs.Limits.{owners, most_cents}
 use Rattle.numbers.specs.Lists.{total}
@@ -27,7 +27,7 @@ wants_length targets = length_list_below _ owners
 
 -- ---- the rows of an hour's size
 
-module _ (book : Book) (fund : ℕ) (wants : List ℕ) (charges : ℕ) where
+module _ (book : Book) (fund : ℤ) (wants : List ℕ) (charges : ℕ) where
   abbrev size : ℕ
   size = first_refusal (size_rows book fund wants charges)
 
@@ -69,7 +69,7 @@ module _ (book : Book) (fund : ℕ) (wants : List ℕ) (charges : ℕ) where
 
 -- ---- the shares
 
-module _ (book : Book) (collected : ℕ) (targets : List ℤ) where
+module _ (book : Book) (collected : ℤ) (targets : List ℤ) where
   abbrev number : ℕ
   number = size book (hour_fund collected targets) (hour_wants targets) (hour_charges targets)
 
@@ -79,9 +79,9 @@ module _ (book : Book) (collected : ℕ) (targets : List ℤ) where
   shared k e = ap (λ (n : ℕ). answered n 0 (shares_of book collected targets)) (sym e)
 
   -- from the parts that the code has worked out
-  module _ {wants : List ℕ} {charges : ℕ} {paid : Paid} {next : List ℕ} (w : wants ≡ hour_wants targets) (c : charges ≡ hour_charges targets) (p : paid ≡ paid_from (collected + charges) wants) (n : next ≡ added_to book.monthshort paid.unpaid) where
+  module _ {wants : List ℕ} {charges : ℕ} {paid : Paid} {next : List ℕ} (w : wants ≡ hour_wants targets) (c : charges ≡ hour_charges targets) (p : paid ≡ paid_from (collected +ℤ pos charges) wants) (n : next ≡ added_to book.monthshort paid.unpaid) where
     paid_is : paid ≡ paid_from (hour_fund collected targets) (hour_wants targets)
-    paid_is = p ∙ ap₂ (λ (x : ℕ) (ws : List ℕ). paid_from (collected + x) ws) c w
+    paid_is = p ∙ ap₂ (λ (x : ℕ) (ws : List ℕ). paid_from (collected +ℤ pos x) ws) c w
 
     next_is : next ≡ (shares_of book collected targets).monthshort
     next_is = n ∙ ap (λ (x : Paid). added_to book.monthshort x.unpaid) paid_is

@@ -1,6 +1,6 @@
 -- The book: what it holds, and when it is spoiled.
 -- Assumes nothing.
-use Rattle.std.specs.Prelude.{ℕ, zero, suc, ◌+◌, ◌*◌, Bool, false, not, ◌&&◌, ◌||◌, [], ◌∷◌, leb, ltb, eqb, get_or, replicate}
+use Rattle.std.specs.Prelude.{ℕ, zero, suc, ◌+◌, Bool, false, not, ◌&&◌, ◌||◌, [], ◌∷◌, leb, ltb, eqb, get_or, replicate, ℤ, pos, neg_ℤ, ◌+ℤ◌, ◌*ℤ◌, int_lt}
 use Rattle.numbers.specs.Limits.{owners, most_cents}
 use Rattle.numbers.specs.Lists.{total}
 use Rattle.numbers.specs.Refusals.{◌if◌, first_refusal, answer_by}
@@ -18,8 +18,8 @@ fresh year =
       ended = false;
       monthshort = replicate owners 0;
       yearshort = replicate owners 0;
-      monthsurplus = 0;
-      yearsurplus = 0;
+      monthbalance = pos 0;
+      yearbalance = pos 0;
     }
 
 -- 15: "opening a book gives it too, with a book all 0, year included"
@@ -44,21 +44,29 @@ open_shortfall book owner = month_short book owner + year_short book owner
 abbrev pub is_short : Book → ℕ → Bool
 is_short book owner = ltb 0 (open_shortfall book owner)
 
--- "the fund left is both surpluses"
-abbrev pub fund_left : Book → ℕ
-fund_left book = book.monthsurplus + book.yearsurplus
+-- "the fund left is both surpluses", where "Each surplus becomes a signed balance" (Wish 6)
+abbrev pub fund_left : Book → ℤ
+fund_left book = book.monthbalance +ℤ book.yearbalance
 
 -- all shortfalls together
 abbrev pub all_shortfalls : Book → ℕ
 all_shortfalls book = total book.monthshort + total book.yearshort
 
--- "collected below 0 or above 4,000,000,000,000"
-abbrev pub most_collected : ℕ
-most_collected = 4_000_000_000_000
+-- "Collected may run from -4,000,000,000 up to the old top", "4,000,000,000,000"
+abbrev pub least_collected : ℤ
+least_collected = neg_ℤ (pos 4_000_000_000)
+
+abbrev pub most_collected : ℤ
+most_collected = pos 4_000_000_000_000
 
 -- "4,004,000,000,000", the most that one hour can bring: the largest amount collected and the most charges
-abbrev pub most_surplus : ℕ
-most_surplus = most_collected + most_cents
+abbrev pub most_brought : ℤ
+most_brought = most_collected +ℤ pos most_cents
+
+-- a balance does not "lie between hours times -4,000,000,000 and hours times 4,004,000,000,000"
+abbrev pub is_out_of_bounds : ℕ → ℤ → Bool
+is_out_of_bounds hours balance =
+    int_lt balance (pos hours *ℤ least_collected) || int_lt (pos hours *ℤ most_brought) balance
 
 -- "the last closed month's end (0 if none)"; month ends "come from that year", the book's
 abbrev pub last_end : ℕ → ℕ → ℕ
@@ -80,10 +88,11 @@ out_of_step year hours months ended =
     || (eqb months months_in_year && not (eqb hours (hours_in_year year)))
     || (ended && ltb months months_in_year)
 
--- 1, spoiled book: those cases, and "all shortfalls together above 4,000,000,000; surpluses together above hours times
--- 4,004,000,000,000"
+-- 1, spoiled book: those cases, and "all shortfalls together above 4,000,000,000"; "each balance, and the two together", out of bounds
 unfoldable pub is_spoiled : Book → Bool
 is_spoiled book =
     out_of_step book.year book.hours book.months book.ended
     || ltb most_cents (all_shortfalls book)
-    || ltb (book.hours * most_surplus) (fund_left book)
+    || is_out_of_bounds book.hours book.monthbalance
+    || is_out_of_bounds book.hours book.yearbalance
+    || is_out_of_bounds book.hours (fund_left book)

@@ -1,7 +1,6 @@
 -- The three events of a book: their wants, F, D, lines, the book after them, when they are due, and their refusals.
 -- Assumes nothing.
-use Rattle.std.specs.Prelude.{ℕ, ◌+◌, ◌-◌, ◌≡◌, Bool, true, not, ◌||◌, List, [], ◌∷◌, ◌++◌, leb, ltb, length, get_or, replicate, ℤ, pos, negsuc, Result, Ok, Err}
-use Rattle.std.specs.Int.Signed.{lt_z}
+use Rattle.std.specs.Prelude.{ℕ, ◌+◌, ◌-◌, ◌≡◌, Bool, true, not, ◌||◌, List, [], ◌∷◌, ◌++◌, leb, ltb, length, get_or, replicate, ℤ, pos, negsuc, ◌+ℤ◌, int_lt, Result, Ok, Err}
 use Rattle.numbers.specs.Limits.{owners, most_cents}
 use Rattle.numbers.specs.Lists.{total, list_below}
 use Rattle.numbers.specs.declared.refusal.Refusal.{Refusal}
@@ -18,7 +17,7 @@ use Rattle.settlement.specs.declared.Event.{Event}
 use Rattle.settlement.specs.declared.Event.TheVariants.{Hour, MonthEnd, YearEnd}
 use Rattle.settlement.specs.declared.Funding.{Funding}
 use Rattle.settlement.specs.declared.Settled.{Settled as Given}
-use Rattle.settlement.specs.Book.{most_collected, all_shortfalls, is_spoiled}
+use Rattle.settlement.specs.Book.{least_collected, most_collected, all_shortfalls, is_spoiled}
 
 -- a call: an hour with its rights, prices and the amount collected; a month end; a year end
 pub data Call : Type 0 where
@@ -49,8 +48,8 @@ unfoldable pub hour_charges : List ℤ → ℕ
 hour_charges targets = total (list_below (λ owner. negative (target_of targets owner)) owners)
 
 -- "F is the amount collected plus all charges"
-abbrev pub hour_fund : ℕ → List ℤ → ℕ
-hour_fund collected targets = collected + hour_charges targets
+abbrev pub hour_fund : ℤ → List ℤ → ℤ
+hour_fund collected targets = collected +ℤ pos (hour_charges targets)
 
 -- at an hour those; "wants are the month shortfalls"; "the same from the year's cells"
 unfoldable pub wants : Call → Book → List ℕ
@@ -59,10 +58,10 @@ wants month_end_call book = book.monthshort
 wants year_end_call book = book.yearshort
 
 -- at an hour that; "F is the month surplus"; "the same from the year's cells"
-unfoldable pub fund : Call → Book → ℕ
-fund (hour_call file prices collected) book = hour_fund (positive collected) (next_targets file prices book)
-fund month_end_call book = book.monthsurplus
-fund year_end_call book = book.yearsurplus
+unfoldable pub fund : Call → Book → ℤ
+fund (hour_call file prices collected) book = hour_fund collected (next_targets file prices book)
+fund month_end_call book = book.monthbalance
+fund year_end_call book = book.yearbalance
 
 -- D, the sum of the wants
 unfoldable pub demand : Call → Book → ℕ
@@ -72,9 +71,23 @@ demand call book = total (wants call book)
 abbrev pub hall : Limits
 hall = limits_of owners most_cents
 
--- what the split of F over the wants pays
+-- what an event pays of its wants, and what it leaves of F
+pub record Payout : Type 0 where
+  pub payments : List ℕ
+  pub left : ℤ
+
+-- for any F: the split of a fund of at least 0; "If an event's F is negative, no one is paid, every want carries, and F itself goes where
+-- what is left would have gone" (Wish 6)
+unfoldable pub payout : ℤ → List ℕ → Payout
+payout (pos fund) wants = record { payments = payments fund wants; left = pos (left fund wants) }
+payout (negsuc below) wants = record { payments = replicate (length wants) 0; left = negsuc below }
+
+-- what F pays of the wants, and what it leaves
 abbrev pub paid : Call → Book → List ℕ
-paid call book = payments (fund call book) (wants call book)
+paid call book = (payout (fund call book) (wants call book)).payments
+
+abbrev pub left_over : Call → Book → ℤ
+left_over call book = (payout (fund call book) (wants call book)).left
 
 -- ---- lines
 
@@ -107,7 +120,7 @@ unfoldable pub added_to : List ℕ → List ℕ → List ℕ
 added_to cells more = list_below (λ owner. get_or cells owner 0 + get_or more owner 0) owners
 
 -- the book after an hour, with these month shortfalls: "what is left to the month surplus"
-abbrev pub book_after_hour : Book → List ℕ → ℕ → Book
+abbrev pub book_after_hour : Book → List ℕ → ℤ → Book
 book_after_hour book month_cells rest =
     record {
       year = book.year;
@@ -116,12 +129,12 @@ book_after_hour book month_cells rest =
       ended = book.ended;
       monthshort = month_cells;
       yearshort = book.yearshort;
-      monthsurplus = book.monthsurplus + rest;
-      yearsurplus = book.yearsurplus;
+      monthbalance = book.monthbalance +ℤ rest;
+      yearbalance = book.yearbalance;
     }
 
 -- the book after a month end, with these year shortfalls: "what is left to the year surplus; the month's cells become 0"
-abbrev pub book_after_month : Book → List ℕ → ℕ → Book
+abbrev pub book_after_month : Book → List ℕ → ℤ → Book
 book_after_month book year_cells rest =
     record {
       year = book.year;
@@ -130,12 +143,12 @@ book_after_month book year_cells rest =
       ended = book.ended;
       monthshort = replicate owners 0;
       yearshort = year_cells;
-      monthsurplus = 0;
-      yearsurplus = book.yearsurplus + rest;
+      monthbalance = pos 0;
+      yearbalance = book.yearbalance +ℤ rest;
     }
 
 -- the book after a year end: "Unpaid wants and what is left stay as the year's cells, and the book is ended"
-abbrev pub book_after_year : Book → List ℕ → ℕ → Book
+abbrev pub book_after_year : Book → List ℕ → ℤ → Book
 book_after_year book unpaid_cells rest =
     record {
       year = book.year;
@@ -144,14 +157,14 @@ book_after_year book unpaid_cells rest =
       ended = true;
       monthshort = book.monthshort;
       yearshort = unpaid_cells;
-      monthsurplus = book.monthsurplus;
-      yearsurplus = rest;
+      monthbalance = book.monthbalance;
+      yearbalance = rest;
     }
 
--- the book after an hour that splits this fund over these wants: "Unpaid want is added to the owner's month shortfall"
-abbrev pub hour_book : Book → ℕ → List ℕ → Book
+-- the book after an hour with this fund and these wants: "Unpaid want is added to the owner's month shortfall"
+abbrev pub hour_book : Book → ℤ → List ℕ → Book
 hour_book book fund wants =
-    book_after_hour book (added_to book.monthshort (unpaid_of wants (payments fund wants))) (left fund wants)
+    book_after_hour book (added_to book.monthshort (unpaid_of wants (payout fund wants).payments)) (payout fund wants).left
 
 -- the book after an accepted call: "Unpaid wants are added to the year shortfalls"; "Unpaid wants .. stay as the year's cells"
 unfoldable pub book_after : Call → Book → Book
@@ -159,10 +172,9 @@ book_after (hour_call file prices collected) book =
     hour_book book (fund (hour_call file prices collected) book) (wants (hour_call file prices collected) book)
 book_after month_end_call book =
     book_after_month book (added_to book.yearshort (unpaid_of (wants month_end_call book) (paid month_end_call book)))
-    (left (fund month_end_call book) (wants month_end_call book))
+    (left_over month_end_call book)
 book_after year_end_call book =
-    book_after_year book (unpaid_of (wants year_end_call book) (paid year_end_call book))
-    (left (fund year_end_call book) (wants year_end_call book))
+    book_after_year book (unpaid_of (wants year_end_call book) (paid year_end_call book)) (left_over year_end_call book)
 
 -- ---- refusals
 
@@ -177,9 +189,9 @@ is_out_of_turn YearEnd book = ltb book.months months_in_year
 unfoldable pub is_due : Event → Book → Bool
 is_due event book = not (book.ended || is_out_of_turn event book)
 
--- 6: "collected below 0 or above 4,000,000,000,000"
+-- 6: "Collected may run from -4,000,000,000 up to the old top, and 6 moves with it" (Wish 6)
 abbrev pub is_wild_amount : ℤ → Bool
-is_wild_amount collected = lt_z collected (pos 0) || lt_z (pos most_collected) collected
+is_wild_amount collected = int_lt collected least_collected || int_lt most_collected collected
 
 -- the rows that every event has: 15 "before any other check", then 1, 2, 3, and 4 for its lines
 unfoldable pub event_rows : Event → Book → ℕ → List Row
@@ -195,7 +207,7 @@ input_rows year file prices collected =
 
 -- the rows of an hour's size, by its F, wants and charges: 9, "positive targets, or charges, above 4,000,000,000 in total"; 10, "all
 -- shortfalls after the hour would pass 4,000,000,000"
-unfoldable pub size_rows : Book → ℕ → List ℕ → ℕ → List Row
+unfoldable pub size_rows : Book → ℤ → List ℕ → ℕ → List Row
 size_rows book fund wants charges =
     (9 if ltb most_cents (total wants))
     ∷ (9 if ltb most_cents charges)
@@ -227,7 +239,7 @@ record_of year_end_call year number = 0
 pub record Settled : Type 0 where
   pub refusal : ℕ
   pub faulty : ℕ
-  pub fund : ℕ
+  pub fund : ℤ
   pub demand : ℕ
   pub book : Book
 
@@ -235,7 +247,7 @@ pub record Settled : Type 0 where
 abbrev pub result_of : Result Funding Refusal → Book → Settled
 result_of (Ok funding) book = record { refusal = 0; faulty = 0; fund = funding.fund; demand = funding.demand; book = book }
 result_of (Err refusal) book =
-    record { refusal = number_in refusal; faulty = record_in refusal; fund = 0; demand = 0; book = book }
+    record { refusal = number_in refusal; faulty = record_in refusal; fund = pos 0; demand = 0; book = book }
 
 abbrev pub in_numbers : Given → Settled
 in_numbers given = result_of given.outcome given.book
@@ -247,7 +259,7 @@ settled call book places =
     record {
       refusal = refusal call book places;
       faulty = record_of call book.year (refusal call book places);
-      fund = answer_by (refusal call book places) (fund call book) 0;
+      fund = answer_by (refusal call book places) (fund call book) (pos 0);
       demand = answer_by (refusal call book places) (demand call book) 0;
       book = answer_by (refusal call book places) (book_after call book) book;
     }

@@ -1,6 +1,6 @@
 -- The ledger of a list of calls, and what is read from its calls and the lines written.
 -- Assumes nothing.
-use Rattle.std.specs.Prelude.{ℕ, ◌+◌, List, [], ◌∷◌, length, get_or, ℤ, pos}
+use Rattle.std.specs.Prelude.{ℕ, ◌+◌, List, [], ◌∷◌, length, get_or, ℤ, pos, ◌+ℤ◌}
 use Rattle.numbers.specs.Limits.{owners}
 use Rattle.numbers.specs.Lists.{total, list_below}
 use Rattle.numbers.specs.Refusals.{answer_by}
@@ -83,16 +83,29 @@ month_end_count past entry = if_accepted entry (at_month_end entry.call 1)
 unfoldable pub year_end_count : List Entry → Entry → ℕ
 year_end_count past entry = if_accepted entry (at_year_end entry.call 1)
 
--- the sum of what the entries contribute
-unfoldable pub sum_over : (List Entry → Entry → ℕ) → List Entry → ℕ
-sum_over part [] = 0
-sum_over part (entry ∷ past) = part past entry + sum_over part past
+-- what the entries contribute, put together, where none is what no entry contributes
+unfoldable pub over : {A : Type 0} → A → (A → A → A) → (List Entry → Entry → A) → List Entry → A
+over none plus part [] = none
+over none plus part (entry ∷ past) = plus (part past entry) (over none plus part past)
 
 -- the same "since the last accepted month end, or since the start"
-unfoldable pub sum_since : (List Entry → Entry → ℕ) → List Entry → ℕ
-sum_since part [] = 0
-sum_since part (entry ∷ past) =
-    answer_by (month_end_count past entry) (part past entry + sum_since part past) 0
+unfoldable pub since : {A : Type 0} → A → (A → A → A) → (List Entry → Entry → A) → List Entry → A
+since none plus part [] = none
+since none plus part (entry ∷ past) =
+    answer_by (month_end_count past entry) (plus (part past entry) (since none plus part past)) none
+
+-- the sum of what the entries contribute, of counts and cents and of cents of either sign
+abbrev pub sum_over : (List Entry → Entry → ℕ) → List Entry → ℕ
+sum_over = over 0 ◌+◌
+
+abbrev pub sum_since : (List Entry → Entry → ℕ) → List Entry → ℕ
+sum_since = since 0 ◌+◌
+
+abbrev pub balance_over : (List Entry → Entry → ℤ) → List Entry → ℤ
+balance_over = over (pos 0) ◌+ℤ◌
+
+abbrev pub balance_since : (List Entry → Entry → ℤ) → List Entry → ℤ
+balance_since = since (pos 0) ◌+ℤ◌
 
 -- "an owner's positive target is its target, or 0 if that is negative", in the year of the list and in the hour "whose number is the count
 -- of accepted hours before it"
@@ -120,14 +133,14 @@ hour_credit owner past entry = if_accepted entry (at_hour entry.call (positive (
 unfoldable pub charge : ℕ → List Entry → Entry → ℕ
 charge owner past entry = if_accepted entry (at_hour entry.call (negative (line_of entry owner)))
 
--- the amount that an accepted hour collected
-abbrev pub call_amount : Call → ℕ
-call_amount (hour_call file prices collected) = positive collected
-call_amount month_end_call = 0
-call_amount year_end_call = 0
+-- the amount that an accepted hour collected, of either sign
+abbrev pub call_amount : Call → ℤ
+call_amount (hour_call file prices collected) = collected
+call_amount month_end_call = pos 0
+call_amount year_end_call = pos 0
 
-unfoldable pub collection : List Entry → Entry → ℕ
-collection past entry = if_accepted entry (call_amount entry.call)
+unfoldable pub collection : List Entry → Entry → ℤ
+collection past entry = answer_by entry.result.refusal (call_amount entry.call) (pos 0)
 
 -- the same of all owners together
 unfoldable pub of_all : (ℕ → List Entry → Entry → ℕ) → List Entry → Entry → ℕ

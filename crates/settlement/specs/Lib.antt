@@ -5,5 +5,6 @@ pub mod Ends
 pub mod InnerContracts
 pub mod Ledger
 pub mod Opening
+pub mod OrdinaryYear
 pub mod Progress
 pub mod WholeYear

@@ -9,7 +9,9 @@ ghost use Rattle.settlement.specs.Events.{hour_call, input_rows, is_wild_amount,
 ghost use Rattle.settlement.specs.InnerContracts.{is_before_amount};
 ghost use Rattle.settlement.specs.Ends.{end_call};
 
-use crate::{Book, End, Event, Funding, MOST_COLLECTED, cells, lines, payment, refusals};
+use crate::{
+    Book, End, Event, Funding, LEAST_COLLECTED, MOST_COLLECTED, cells, lines, payment, refusals,
+};
 use numbers::{OWNERS, Refusal};
 
 impl Book {
@@ -25,21 +27,21 @@ impl Book {
     {
         refusals::of_event(self, Event::Hour, lines.len())?;
         let targets = hour_targets(self.year, rights, prices, self.hours, collected)?;
-        let shares = payment::share_out(self, numbers::positive_part(collected), &targets)?;
+        let shares = payment::share_out(self, collected, &targets)?;
         lines.copy_from_slice(&lines::of_hour(&targets, &shares.paid.payments));
         self.after_hour(shares.monthshort, shares.paid.left);
         Ok(shares.paid.funding)
     }
 
-    // Pays the shortfalls of a month or of the year from its surplus.
+    // Pays the shortfalls of a month or of the year from its balance.
     pub(crate) fn pay_short(&mut self, end: End, lines: &mut [i64]) -> Result<Funding, Refusal>
         ensures { Answered (end_call end) self.old lines.old (result_of result self.new) lines.new }
     {
         refusals::of_event(self, end.into(), lines.len())?;
         // Two matches on the end: a month and a year have other cells to pay from and to write, so that closures would be no plainer.
         let (fund, wants) = match end {
-            End::Month => (self.monthsurplus, self.monthshort),
-            End::Year => (self.yearsurplus, self.yearshort),
+            End::Month => (self.monthbalance, self.monthshort),
+            End::Year => (self.yearbalance, self.yearshort),
         };
         let paid = payment::pay(fund, &wants);
         lines.copy_from_slice(&lines::of_payments(&paid.payments));
@@ -84,5 +86,5 @@ fn is_before_amount(outcome: Result<(), Refusal>) -> bool
 fn is_wild_amount(collected: i64) -> bool
     ensures { result ≡ is_wild_amount collected }
 {
-    (collected < 0) | (MOST_COLLECTED < collected.unsigned_abs())
+    (collected < LEAST_COLLECTED) | (MOST_COLLECTED < collected)
 }

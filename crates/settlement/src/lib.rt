@@ -18,8 +18,10 @@ mod payment;
 mod refusals;
 mod spoiled;
 
-// The most cents collected in an hour.
-pub(crate) const MOST_COLLECTED: u64 = 4_000_000_000_000;
+// The least and the most cents collected in an hour.
+pub(crate) const LEAST_COLLECTED: i64 = -4_000_000_000;
+
+pub(crate) const MOST_COLLECTED: i64 = 4_000_000_000_000;
 
 // The year, what is settled and what is open. Amounts are cents; a caller may hand over any book.
 #[derive(Clone, Copy)]
@@ -30,8 +32,8 @@ pub struct Book {
     pub ended: bool,
     pub monthshort: [u64; OWNERS],
     pub yearshort: [u64; OWNERS],
-    pub monthsurplus: u64,
-    pub yearsurplus: u64,
+    pub monthbalance: i64,
+    pub yearbalance: i64,
 }
 
 // What opening a book gives: the book, and whether there is such a year.
@@ -49,7 +51,7 @@ pub enum Event {
     YearEnd,
 }
 
-// The ends of a period, at which its shortfalls are paid from its surplus.
+// The ends of a period, at which its shortfalls are paid from its balance.
 #[derive(Clone, Copy, Debug, PartialEq, Eq)]
 pub enum End {
     Month,
@@ -70,7 +72,7 @@ impl From<End> for Event {
 // The fund F and the demand D of an accepted event.
 #[derive(Clone, Copy, Debug, PartialEq, Eq)]
 pub struct Funding {
-    pub fund: u64,
+    pub fund: i64,
     pub demand: u64,
 }
 
@@ -111,8 +113,8 @@ impl Book {
             ended: false,
             monthshort: [0; OWNERS],
             yearshort: [0; OWNERS],
-            monthsurplus: 0,
-            yearsurplus: 0,
+            monthbalance: 0,
+            yearbalance: 0,
         }
     }
 
@@ -141,14 +143,14 @@ impl Book {
         }
     }
 
-    // Pays the month's shortfalls from the month's surplus; what is unpaid and what is left go to the year.
+    // Pays the month's shortfalls from the month's balance; what is unpaid and what is left go to the year.
     pub fn month_end(self, lines: &mut [i64]) -> Settled
         ensures { Answered month_end_call self lines.old (in_numbers result) lines.new }
     {
         self.close(End::Month, lines)
     }
 
-    // Pays the year's shortfalls from the year's surplus and ends the book.
+    // Pays the year's shortfalls from the year's balance and ends the book.
     pub fn year_end(self, lines: &mut [i64]) -> Settled
         ensures { Answered year_end_call self lines.old (in_numbers result) lines.new }
     {

@@ -1,10 +1,10 @@
-// The split of a fund over all owners, and what an hour makes of it.
-ghost use Rattle.std.specs.Prelude.{◌≤◌, ◌≡◌};
-ghost use Rattle.numbers.specs.Limits.{most_cents};
+// What a fund pays out to all owners, and what an hour makes of it.
+ghost use Rattle.std.specs.Prelude.{◌≤◌, ◌≡◌, false, replicate};
+ghost use Rattle.numbers.specs.Limits.{owners, most_cents};
 ghost use Rattle.numbers.specs.Lists.{total};
 ghost use Rattle.numbers.specs.Refusals.{answered, first_refusal};
-ghost use Rattle.settlement.specs.Book.{all_shortfalls, most_collected};
-ghost use Rattle.settlement.specs.Events.{hour_charges, hour_fund, hour_wants, size_rows};
+ghost use Rattle.settlement.specs.Book.{all_shortfalls};
+ghost use Rattle.settlement.specs.Events.{hour_charges, hour_fund, hour_wants, is_wild_amount, payout, size_rows};
 ghost use Rattle.settlement.specs.InnerContracts.{paid_from, shares_of};
 
 use crate::{Book, Funding, cells, lines};
@@ -17,11 +17,11 @@ const HALL: Limits = Limits {
     total: numbers::MOST_CENTS,
 };
 
-// What a split over all owners pays each, what it leaves unpaid, and what is left of the fund.
+// What a fund pays each owner, what it leaves unpaid, and what is left of it, which is negative where the fund is.
 #[derive(Clone, Copy)]
 pub(crate) struct Paid {
     pub(crate) funding: Funding,
-    pub(crate) left: u64,
+    pub(crate) left: i64,
     pub(crate) payments: [u64; OWNERS],
     pub(crate) unpaid: [u64; OWNERS],
 }
@@ -33,13 +33,13 @@ pub(crate) struct Shares {
     pub(crate) monthshort: [u64; OWNERS],
 }
 
-// Splits an hour's fund over its positive targets. Refuses an hour that is too large, or that would leave too much unpaid.
+// Pays an hour's positive targets from its fund. Refuses an hour that is too large, or that would leave too much unpaid.
 pub(crate) fn share_out(
     book: &Book,
-    collected: u64,
+    collected: i64,
     targets: &[i64; OWNERS],
 ) -> Result<Shares, Refusal>
-    requires { (all_shortfalls book.now ≤ most_cents) × (collected ≤ most_collected) }
+    requires { (all_shortfalls book.now ≤ most_cents) × (is_wild_amount collected ≡ false) }
     ensures { result ≡ answered (first_refusal (size_rows book.now (hour_fund collected targets.now) (hour_wants targets.now) (hour_charges targets.now))) 0 (shares_of book.now collected targets.now) }
 {
     let cap = numbers::MOST_CENTS + 1;
@@ -51,7 +51,7 @@ pub(crate) fn share_out(
     if charges == cap {
         return Err(Refusal::HourTooLarge);
     }
-    let paid = pay(collected + charges, &wants);
+    let paid = pay(collected + charges.cast_signed(), &wants);
     let monthshort = cells::added(&book.monthshort, &paid.unpaid);
     if cells::is_carry_full(&monthshort, &book.yearshort) {
         return Err(Refusal::CarryFull);
@@ -59,14 +59,14 @@ pub(crate) fn share_out(
     Ok(Shares { paid, monthshort })
 }
 
-// Splits a fund over 64 wants that the hall's limits take.
-pub(crate) fn pay(fund: u64, wants: &[u64; OWNERS]) -> Paid
+// Pays 64 wants that the hall's limits take.
+pub(crate) fn pay(fund: i64, wants: &[u64; OWNERS]) -> Paid
     requires { total wants.now ≤ most_cents }
     ensures { result ≡ paid_from fund wants.now }
 {
     let demand = numbers::capped_total(numbers::MOST_CENTS, 0, wants);
     let mut payments = [0u64; OWNERS];
-    let left = split::split(HALL, fund, wants, &mut payments).unwrap();
+    let left = pay_out(fund, wants, &mut payments);
     let unpaid = cells::unpaid_of(wants, &payments);
     Paid {
         funding: Funding { fund, demand },
@@ -74,4 +74,19 @@ pub(crate) fn pay(fund: u64, wants: &[u64; OWNERS]) -> Paid
         payments,
         unpaid,
     }
+}
+
+// Writes what a fund pays: the split's payments where it is at least 0, none where it is negative. Gives what is left of it.
+fn pay_out(fund: i64, wants: &[u64; OWNERS], payments: &mut [u64; OWNERS]) -> i64
+    requires within { total wants.now ≤ most_cents }
+    requires none_yet { payments.old ≡ replicate owners 0 }
+    ensures value { result ≡ (payout fund wants.now).left }
+    ensures payments_after { payments.new ≡ (payout fund wants.now).payments }
+{
+    if fund < 0 {
+        return fund;
+    }
+    split::split(HALL, fund.unsigned_abs(), wants, payments)
+        .unwrap()
+        .cast_signed()
 }

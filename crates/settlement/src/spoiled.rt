@@ -1,13 +1,14 @@
 // Whether a book is spoiled. Its numbers are any, so no sum is made that could wrap.
-ghost use Rattle.std.specs.Prelude.{◌≡◌};
-ghost use Rattle.settlement.specs.Book.{last_end, off_month, out_of_step, is_spoiled};
+ghost use Rattle.std.specs.Prelude.{◌≤◌, ◌≡◌};
+ghost use Rattle.calendar.proofs.AlmanacLaws.{most_hours};
+ghost use Rattle.settlement.specs.Book.{last_end, off_month, out_of_step, is_out_of_bounds, is_spoiled};
 
-use crate::{Book, cells};
+use crate::{Book, LEAST_COLLECTED, MOST_COLLECTED, cells};
 
 // The most that one hour can bring: the largest amount collected and the most charges.
-const MOST_SURPLUS: u64 = crate::MOST_COLLECTED + numbers::MOST_CENTS;
+const MOST_BROUGHT: i64 = MOST_COLLECTED + numbers::MOST_CENTS as i64;
 
-// Refusal 1: by the counts and the mark, by the shortfalls, or by the surpluses.
+// Refusal 1: by the counts and the mark, by the shortfalls, or by the balances, whose sum is made only where each is within bounds.
 #[tactic(auto, unfolding(crate::specs::Book::is_spoiled))]
 pub(crate) fn is_spoiled(book: &Book) -> bool
     ensures { result ≡ is_spoiled book.now }
@@ -18,11 +19,22 @@ pub(crate) fn is_spoiled(book: &Book) -> bool
     if cells::is_carry_full(&book.monthshort, &book.yearshort) {
         return true;
     }
-    numbers::is_sum_above(
-        book.monthsurplus,
-        book.yearsurplus,
-        book.hours * MOST_SURPLUS,
-    )
+    if is_out_of_bounds(book.hours, book.monthbalance) {
+        return true;
+    }
+    if is_out_of_bounds(book.hours, book.yearbalance) {
+        return true;
+    }
+    is_out_of_bounds(book.hours, book.monthbalance + book.yearbalance)
+}
+
+// Whether a balance is less than so many hours can take, or more than they can bring.
+fn is_out_of_bounds(hours: u64, balance: i64) -> bool
+    requires { hours ≤ most_hours }
+    ensures { result ≡ is_out_of_bounds hours balance }
+{
+    let hours = hours.cast_signed();
+    (balance < hours * LEAST_COLLECTED) | (hours * MOST_BROUGHT < balance)
 }
 
 // Whether the hours settled, the months closed and the mark are none that can stand together in a year.

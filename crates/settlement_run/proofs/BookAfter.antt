@@ -1,7 +1,7 @@
 -- What holds of a book and is kept by every accepted call holds of the book after a step.
 -- Assumes nothing.
 use Prim.Native.Nat.{ℕ}
-use mathlib.Core.Path.{◌≡◌, sym, subst}
+use mathlib.Core.Path.{◌≡◌}
 use mathlib.Core.Bool.{Bool, true, false, cond}
 use mathlib.Core.List.{List, []}
 use lib.ListN.{length}
@@ -9,9 +9,7 @@ use Rattle.numbers.specs.Limits.{owners}
 use Rattle.settlement.specs.declared.Book.{Book}
 use Rattle.settlement.specs.Events.{Call, hour_call, month_end_call, year_end_call, event_of, is_due, refusal, book_after}
 use Rattle.hour_block.specs.Block.{amount_in, prices_in}
-use Rattle.settlement_run.specs.declared.Run.{Run}
 use Rattle.settlement_run.specs.Run.{Part, block_refusal, goes_on, and_then, event_part, if_due, hour_part, step_part}
-use Rattle.settlement_run.specs.Calls.{step_room, lacks_room, standing, stepped, stepped_run}
 use Rattle.settlement_run.proofs.Parts.{by_refusal, by_first}
 
 module _ (P : Book → Type 0)
@@ -46,15 +44,3 @@ module _ (P : Book → Type 0)
         then_keeps (and_then (hour_part file block book) (if_due month_end_call)) (if_due year_end_call)
         (then_keeps (hour_part file block book) (if_due month_end_call) (hour_keeps book holds) (due_keeps month_end_call))
         (due_keeps year_end_call)
-
-    stepped_keeps : (run : Run) → P run.book → P (stepped file block run).book
-    stepped_keeps run holds = then_keeps (standing run) (step_part file block) holds part_keeps
-
-  pub steps_keep : (file block : List ℕ) (run : Run) (before : List ℕ) {result : Run} → result ≡ stepped_run file block run before
-      → P run.book → P result.book
-  steps_keep file block run before is holds =
-      subst (λ (r : Run). P r.book) (sym is) (by_room (lacks_room step_room (length before) run.end))
-    where
-      by_room : (full : Bool) → P (cond full (standing run) (stepped file block run)).book
-      by_room true = holds
-      by_room false = stepped_keeps file block run holds

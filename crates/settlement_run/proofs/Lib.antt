@@ -6,6 +6,7 @@ pub mod EnoughBlocks
 pub mod Parts
 pub mod PrintedClaimHolds
 pub mod PrintedCredits
+pub mod PrintedFund
 pub mod PrintedLines
 pub mod PrintedSums
 pub mod RunLedger

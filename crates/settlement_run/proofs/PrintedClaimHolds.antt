@@ -6,12 +6,15 @@ use mathlib.Core.Bool.{Bool, true, false}
 use mathlib.Core.Logic.{◌⊎◌}
 use mathlib.Core.List.{List}
 use native.Mathlib.Omega.{arith}
+use lib.IntN.{pos}
+use lib.Signed.{◌≤ℤ◌}
+use borrow.Author.Differences.{ints}
 use Rattle.numbers.specs.Limits.{owners}
 use Rattle.numbers.specs.Lists.{total}
 use Rattle.numbers.proofs.Counts.{list_below_ext}
 use Rattle.settlement.specs.declared.Book.{Book}
 use Rattle.settlement.specs.Book.{open_shortfall, is_short, fund_left}
-use Rattle.settlement.specs.Ledger.{Entry, book_at, ledger_of, IsLedger, sum_over, hour_count, positive_target, credit, charge, collection, of_all}
+use Rattle.settlement.specs.Ledger.{Entry, book_at, ledger_of, IsLedger, sum_over, balance_over, hour_count, positive_target, credit, charge, collection, of_all}
 use Rattle.settlement.specs.Claim.{Claim}
 use Rattle.settlement.proofs.ClaimHolds.{claim, kept_all}
 use Rattle.settlement.proofs.OneLedger.{is_ledger}
@@ -20,7 +23,8 @@ use Rattle.statement_text.specs.Text.{Line}
 use Rattle.settlement_run.specs.Run.{Part, program_year, block_count, whole_run, all_lines}
 use Rattle.settlement_run.specs.PrintedClaim.{credit_in, charge_in, sum_lines, of_owners, collected_in, targets_in, CreditsPrinted, PrintedClaim}
 use Rattle.settlement_run.proofs.PrintedCredits.{credits_printed_lem}
-use Rattle.settlement_run.proofs.PrintedSums.{all_credits_lem, all_charges, all_fund_lem}
+use Rattle.settlement_run.proofs.PrintedFund.{all_fund_lem}
+use Rattle.settlement_run.proofs.PrintedSums.{all_credits_lem, all_charges}
 use Rattle.settlement_run.proofs.RunLedger.{Made, made_run}
 
 module _ (file input : List ℕ) (blocks : ℕ) (run : Part) (made : Made file input blocks run) where
@@ -54,7 +58,7 @@ module _ (file input : List ℕ) (blocks : ℕ) (run : Part) (made : Made file i
       (all_charges run ledger answered made.prints))
       ∙ sym (over_all charge ledger)
 
-  collected_is : collected_in input run.book.hours ≡ sum_over collection ledger
+  collected_is : collected_in input run.book.hours ≡ balance_over collection ledger
   collected_is = ap (collected_in input) hours_are ∙ sym made.collected
 
   targets_are : (owner : ℕ) → targets_in file input owner run.book.hours ≡ sum_over (positive_target program_year owner) ledger
@@ -64,9 +68,9 @@ module _ (file input : List ℕ) (blocks : ℕ) (run : Part) (made : Made file i
   short_is owner = ap (λ (book : Book). open_shortfall book owner) made.reached
 
   year_closes_lem : run.book.ended ≡ true
-      → (fund_left run.book ≡ 0) ⊎ ((owner : ℕ) → owner < owners → is_short run.book owner ≡ false)
+      → (fund_left run.book ≤ℤ pos 0) ⊎ ((owner : ℕ) → owner < owners → is_short run.book owner ≡ false)
   year_closes_lem ended =
-      subst (λ (book : Book). (fund_left book ≡ 0) ⊎ ((owner : ℕ) → owner < owners → is_short book owner ≡ false)) made.reached
+      subst (λ (book : Book). (fund_left book ≤ℤ pos 0) ⊎ ((owner : ℕ) → owner < owners → is_short book owner ≡ false)) made.reached
       (whole.year_closes
       ((kept_all program_year refl ledger answered).ended_after (ap (λ (book : Book). book.ended) made.reached ∙ ended)))
 
@@ -78,8 +82,8 @@ module _ (file input : List ℕ) (blocks : ℕ) (run : Part) (made : Made file i
         prints = made.prints;
         credits_printed =
             subst (λ (printed : List Line). CreditsPrinted printed ledger) (sym made.prints) (credits_printed_lem ledger answered);
-        closes = omega (arith, whole.closes, collected_is, credits_are, charges_are, fund_is_lem);
-        prints_fund = all_fund_lem run ledger answered made.prints;
+        closes = omega (arith, ints, whole.closes, collected_is, credits_are, charges_are, fund_is_lem);
+        prints_fund = all_fund_lem run ledger made.prints;
         owner_closes =
             λ owner inside.
             omega

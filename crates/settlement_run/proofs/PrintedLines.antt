@@ -14,21 +14,21 @@ use borrow.Author.Tests.{eq-eqb, ne_eqb}
 use Rattle.numbers.specs.Signs.{positive, negative}
 use Rattle.statement_text.specs.Text.{Line, owner_line, owner_lines, lines_below, event_lines}
 use Rattle.statement_text.proofs.EventLines.{event_below, below_none, below_next, no_line, credit_line, charge_line}
-use Rattle.settlement_run.specs.PrintedClaim.{credit_in, charge_in, event_credit_in, fund_in, sum_lines}
+use Rattle.settlement_run.specs.PrintedClaim.{credit_in, charge_in, event_credit_in, over_lines, sum_lines}
 
 -- ---- lines in a row
 
 pub sum_none : (part : Line → ℕ) → sum_lines part [] ≡ 0
-unfolding sum_lines
+unfolding over_lines
 sum_none part = refl
 
 pub sum_append : (part : Line → ℕ) (lines more : List Line) → sum_lines part (lines ++ more) ≡ sum_lines part lines + sum_lines part more
-unfolding sum_lines
+unfolding over_lines
 sum_append part [] more = omega arith
 sum_append part (line ∷ rest) more = let h = sum_append part rest more in omega arith
 
 pub sum_one : (part : Line → ℕ) (line : Line) → sum_lines part (line ∷ []) ≡ part line
-unfolding sum_lines
+unfolding over_lines
 sum_one part line = omega arith
 
 -- ---- the lines of an event
@@ -116,17 +116,3 @@ module _ (tag number owner : ℕ) (cents : List ℤ) (inside : owner < length ce
       (λ who z.
       ap (λ (test : Bool). cond (test && eqb who owner) (positive z) 0) apart ∙ sym (cond_none (eqb who owner) 0 refl))
       cents inside
-
--- no line of an event prints the fund
-pub no_fund : (tag number : ℕ) (cents : List ℤ) (n : ℕ) → sum_lines fund_in (lines_below tag number cents n) ≡ 0
-unfolding fund_in
-no_fund tag number cents zero = ap (sum_lines fund_in) (below_none tag number cents) ∙ sum_none fund_in
-no_fund tag number cents (suc n) =
-    let below = lines_below tag number cents n in
-    let last = owner_lines tag number n (get_or cents n (pos 0)) in
-    omega
-    (arith, ap (sum_lines fund_in) (below_next tag number cents n), sum_append fund_in below last, no_fund tag number cents n, sum_owner fund_in tag number n (get_or cents n (pos 0)) refl)
-
-pub no_fund_of_event : (tag number : ℕ) (cents : List ℤ) → sum_lines fund_in (event_lines tag number cents) ≡ 0
-no_fund_of_event tag number cents =
-    ap (sum_lines fund_in) (event_below tag number cents) ∙ no_fund tag number cents (length cents)

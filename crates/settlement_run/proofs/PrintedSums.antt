@@ -8,16 +8,15 @@ use Rattle.numbers.specs.Limits.{owners}
 use Rattle.numbers.specs.Refusals.{answer_by}
 use Rattle.numbers.proofs.Refusals.{answer_accepted}
 use Rattle.settlement.specs.declared.Book.{Book}
-use Rattle.settlement.specs.Book.{fund_left}
 use Rattle.settlement.specs.Events.{Answered}
 use Rattle.settlement.specs.Ledger.{Entry, book_at, IsLedger, sum_over, credit, charge}
 use Rattle.settlement.proofs.EntryParts.{over_next, refused_nothing}
 use Rattle.settlement.proofs.RunLaws.{over_none, written_long, credit_line, charge_line}
 use Rattle.statement_text.specs.Text.{Line, event_lines}
 use Rattle.settlement_run.specs.Run.{Part, program_year, tag_of, last_line, all_lines}
-use Rattle.settlement_run.specs.PrintedClaim.{credit_in, charge_in, fund_in, sum_lines, number_in, ledger_lines}
+use Rattle.settlement_run.specs.PrintedClaim.{credit_in, charge_in, sum_lines, number_in, ledger_lines}
 use Rattle.settlement_run.proofs.Parts.{by_refusal}
-use Rattle.settlement_run.proofs.PrintedLines.{sum_none, sum_append, sum_one, credits_of_event, charges_of_event, no_fund_of_event}
+use Rattle.settlement_run.proofs.PrintedLines.{sum_none, sum_append, sum_one, credits_of_event, charges_of_event}
 
 -- ---- the lines of an entry
 
@@ -77,17 +76,6 @@ module _ (owner : ℕ) (inside : owner < owners) where
       ∙ sym (charge_line program_year past entry answered accepted owner inside))
       (λ past entry refused. (refused_nothing program_year past entry refused).charges owner)
 
-pub no_fund_of_ledger : (ledger : List Entry) → IsLedger program_year ledger → sum_lines fund_in (ledger_lines ledger) ≡ 0
-no_fund_of_ledger ledger answered =
-    sum_ledger fund_in (λ _ _. 0)
-    (λ past entry answered accepted. no_fund_of_event (tag_of entry.call) (number_in entry.call past) entry.written)
-    (λ past entry refused. refl) ledger answered
-    ∙ nothing ledger
-  where
-    nothing : (entries : List Entry) → sum_over (λ _ _. 0) entries ≡ 0
-    nothing [] = over_none (λ _ _. 0)
-    nothing (entry ∷ past) = omega (arith, over_next (λ _ _. 0) entry past, nothing past)
-
 -- ---- the last line
 
 last_credit : (owner refusal : ℕ) (book : Book) → credit_in owner (last_line refusal book) ≡ 0
@@ -99,10 +87,6 @@ last_charge : (owner refusal : ℕ) (book : Book) → charge_in owner (last_line
 unfolding charge_in last_line
 last_charge owner zero book = refl
 last_charge owner (suc n) book = refl
-
-last_fund : (refusal : ℕ) (book : Book) → refusal ≡ 0 → fund_in (last_line refusal book) ≡ fund_left book
-unfolding fund_in last_line
-last_fund refusal book on = ap (λ (r : ℕ). fund_in (last_line r book)) on
 
 -- all lines of a run that prints the lines of a ledger
 module _ (run : Part) (ledger : List Entry) (answered : IsLedger program_year ledger) (prints : run.printed ≡ ledger_lines ledger) where
@@ -121,7 +105,3 @@ module _ (run : Part) (ledger : List Entry) (answered : IsLedger program_year le
   all_charges owner inside =
       omega
       (arith, all_lines_lem (charge_in owner), last_charge owner run.refusal run.book, charges_of_ledger owner inside ledger answered)
-
-  pub all_fund_lem : run.refusal ≡ 0 → sum_lines fund_in (all_lines run) ≡ fund_left run.book
-  all_fund_lem on =
-      omega (arith, all_lines_lem fund_in, last_fund run.refusal run.book on, no_fund_of_ledger ledger answered)

@@ -6,21 +6,24 @@ use mathlib.Core.Bool.{Bool, true, false, cond}
 use mathlib.Core.List.{List, [], ◌∷◌, ◌++◌, append_assoc, append-nil}
 use native.Mathlib.Omega.{arith}
 use lib.ListN.{length}
+use lib.IntN.{ℤ, pos, ◌+ℤ◌}
+use borrow.Author.Differences.{ints}
 use Rattle.numbers.specs.Limits.{owners}
 use Rattle.numbers.specs.Lists.{total, list_below}
 use Rattle.numbers.specs.Refusals.{answer_by}
 use Rattle.numbers.specs.Signs.{positive}
 use Rattle.numbers.proofs.Refusals.{answer_accepted, answer_refused}
 use Rattle.numbers.proofs.Counts.{total_suc}
+use Rattle.numbers.proofs.Signed.{sum_none, sum_next}
 use Rattle.target.specs.Target.{target}
 use Rattle.settlement.specs.declared.Book.{Book}
 use Rattle.settlement.specs.Book.{fresh}
 use Rattle.settlement.specs.Events.{Call, hour_call, month_end_call, year_end_call, event_of, is_due, refusal, record_of, lines, book_after}
-use Rattle.settlement.specs.Ledger.{Entry, Asked, book_at, entry_on, ledger_of, at_hour, hour_count, sum_over, call_positive, positive_target, call_amount, collection}
-use Rattle.settlement.proofs.EntryParts.{Parts, over_next, refused_nothing, accepted_parts}
+use Rattle.settlement.specs.Ledger.{Entry, Asked, book_at, entry_on, ledger_of, at_hour, hour_count, sum_over, balance_over, call_positive, positive_target, call_amount, collection}
+use Rattle.settlement.proofs.EntryParts.{Parts, over_next, balance_next, refused_nothing, accepted_parts}
 use Rattle.settlement.proofs.ClaimHolds.{kept_all}
 use Rattle.settlement.proofs.OneLedger.{book_at_start, book_at_entry, ledger_none, ledger_next, is_ledger}
-use Rattle.settlement.proofs.RunLaws.{over_none}
+use Rattle.settlement.proofs.RunLaws.{over_none, balance_over_none}
 use Rattle.hour_block.specs.Block.{amount_in, prices_in}
 use Rattle.statement_text.specs.Text.{Line, event_lines}
 use Rattle.settlement_run.specs.Run.{Part, block_refusal, program_year, goes_on, stops, behind, and_then, tag_of, number_of, asked_of, event_part, if_due, hour_part, step_part, opening_refusal, opening, block_at, run_to}
@@ -56,14 +59,20 @@ behind_then first part next =
 pub record Made (file input : List ℕ) (blocks : ℕ) (part : Part) : Type 0 where
   pub reached : book_at program_year (ledger_of program_year part.calls) ≡ part.book
   pub prints : part.printed ≡ ledger_lines (ledger_of program_year part.calls)
-  pub collected : sum_over collection (ledger_of program_year part.calls) ≡ collected_in input (sum_over hour_count (ledger_of program_year part.calls))
+  pub collected : balance_over collection (ledger_of program_year part.calls) ≡ collected_in input (sum_over hour_count (ledger_of program_year part.calls))
   pub targeted : (owner : ℕ)
       → sum_over (positive_target program_year owner) (ledger_of program_year part.calls) ≡ targets_in file input owner (sum_over hour_count (ledger_of program_year part.calls))
   pub counted : part.refusal ≡ 0 → sum_over hour_count (ledger_of program_year part.calls) ≡ blocks
 
+-- an amount that only an hour collects
+abbrev amount_at_hour : Call → ℤ → ℤ
+amount_at_hour (hour_call file prices collected) amount = amount
+amount_at_hour month_end_call amount = pos 0
+amount_at_hour year_end_call amount = pos 0
+
 -- an hour's call is that of its block
 pub record IsOf (file input : List ℕ) (call : Call) (block : ℕ) : Type 0 where
-  pub amount : call_amount call ≡ at_hour call (positive (amount_in (block_at input block)))
+  pub amount : call_amount call ≡ amount_at_hour call (amount_in (block_at input block))
   pub positives : (owner : ℕ)
       → call_positive call program_year block owner ≡ at_hour call (positive (target program_year file (prices_in (block_at input block)) block owner))
 
@@ -96,6 +105,31 @@ module _ (part : List Entry → Entry → ℕ) (f : ℕ → ℕ) (past : List En
       omega (arith, over_next part entry past) in
       sums ∙ sym (sum_at_hour entry.call f (sum_over hour_count past)) ∙ ap (λ (m : ℕ). total (list_below f m)) next
 
+-- the sum of the amounts collected, to which an entry adds nothing, or the amount of an hour's block
+module _ (input : List ℕ) (past : List Entry) (entry : Entry)
+    (so_far : balance_over collection past ≡ collected_in input (sum_over hour_count past)) where
+  none_collected : collection past entry ≡ pos 0 → hour_count past entry ≡ 0
+      → balance_over collection (entry ∷ past) ≡ collected_in input (sum_over hour_count (entry ∷ past))
+  none_collected none no_hour =
+      let same : sum_over hour_count past ≡ sum_over hour_count (entry ∷ past) = omega (arith, over_next hour_count entry past) in
+      let sums : balance_over collection (entry ∷ past) ≡ balance_over collection past = omega (arith, ints, balance_next collection entry past) in
+      sums ∙ so_far ∙ ap (collected_in input) same
+
+  one_collected : collection past entry ≡ amount_in (block_at input (sum_over hour_count past)) → hour_count past entry ≡ 1
+      → balance_over collection (entry ∷ past) ≡ collected_in input (sum_over hour_count (entry ∷ past))
+  one_collected amount hour =
+      let next : sum_over hour_count past + 1 ≡ sum_over hour_count (entry ∷ past) = omega (arith, over_next hour_count entry past) in
+      let sums : balance_over collection (entry ∷ past) ≡ collected_in input (sum_over hour_count past) +ℤ amount_in (block_at input (sum_over hour_count past)) =
+      omega (arith, ints, balance_next collection entry past) in
+      sums ∙ sym (sum_next (λ hour. amount_in (block_at input hour)) (sum_over hour_count past)) ∙ ap (collected_in input) next
+
+  collected_next : (call : Call) → collection past entry ≡ amount_at_hour call (amount_in (block_at input (sum_over hour_count past)))
+      → hour_count past entry ≡ at_hour call 1
+      → balance_over collection (entry ∷ past) ≡ collected_in input (sum_over hour_count (entry ∷ past))
+  collected_next (hour_call file prices collected) = one_collected
+  collected_next month_end_call = none_collected
+  collected_next year_end_call = none_collected
+
 -- the numbers that the lines have are the book's
 number_is : (call : Call) (calls : List Asked) → number_of call (book_at program_year (ledger_of program_year calls)) ≡ number_in call (ledger_of program_year calls)
 number_is (hour_call file prices collected) calls = (kept_all program_year refl (ledger_of program_year calls) (is_ledger program_year calls)).hours
@@ -125,7 +159,7 @@ module _ (file input : List ℕ) (blocks : ℕ) (run : Part) (before : Made file
     -- what is to be shown of the part with the call, by the ledger with it
     made_next : (lines : List Line) (number tag event faulty : ℕ) (after : Book) → entry.result.book ≡ after
         → lines ≡ answer_by entry.result.refusal (event_lines (tag_of call) (number_in call past) entry.written) []
-        → sum_over collection (entry ∷ past) ≡ collected_in input (sum_over hour_count (entry ∷ past))
+        → balance_over collection (entry ∷ past) ≡ collected_in input (sum_over hour_count (entry ∷ past))
         → ((owner : ℕ) → sum_over (positive_target program_year owner) (entry ∷ past) ≡ targets_in file input owner (sum_over hour_count (entry ∷ past)))
         → (number ≡ 0 → sum_over hour_count (entry ∷ past) ≡ at_hour call 1 + blocks)
         → Made file input (at_hour call 1 + blocks)
@@ -135,7 +169,7 @@ module _ (file input : List ℕ) (blocks : ℕ) (run : Part) (before : Made file
         record {
           reached = ap (book_at program_year) (sym next) ∙ book_at_entry program_year entry past ∙ gives;
           prints = ap₂ (λ (a b : List Line). a ++ b) before.prints printed ∙ ap ledger_lines next;
-          collected = subst (λ (l : List Entry). sum_over collection l ≡ collected_in input (sum_over hour_count l)) next collected;
+          collected = subst (λ (l : List Entry). balance_over collection l ≡ collected_in input (sum_over hour_count l)) next collected;
           targeted =
               λ owner.
               subst (λ (l : List Entry). sum_over (positive_target program_year owner) l ≡ targets_in file input owner (sum_over hour_count l)) next (targeted owner);
@@ -150,8 +184,7 @@ module _ (file input : List ℕ) (blocks : ℕ) (run : Part) (before : Made file
         (answer_accepted (refusal call book owners) _ _ accepted)
         (ap₂ (event_lines (tag_of call)) (number_is call run.calls) (sym (answer_accepted (refusal call book owners) (lines call book) _ accepted))
         ∙ sym (answer_accepted entry.result.refusal _ [] accepted))
-        (sum_accepted collection (λ hour. positive (amount_in (block_at input hour))) past entry before.collected
-        (parts.collected ∙ of_next.amount) parts.hour)
+        (collected_next input past entry before.collected call (parts.collected ∙ of_next.amount) parts.hour)
         (λ owner.
         sum_accepted (positive_target program_year owner) (λ hour. positive (target program_year file (prices_in (block_at input hour)) hour owner)) past entry
         (before.targeted owner) (parts.target owner ∙ of_next.positives owner) parts.hour)
@@ -168,7 +201,7 @@ module _ (file input : List ℕ) (blocks : ℕ) (run : Part) (before : Made file
         made_next [] (refusal call book owners) (tag_of call) (number_of call book) (record_of call book.year (refusal call book owners)) book
         (answer_refused (refusal call book owners) _ _ refused)
         (sym (answer_refused entry.result.refusal _ [] refused))
-        (sum_refused collection (λ hour. positive (amount_in (block_at input hour))) past entry before.collected none.collected none.hour)
+        (none_collected input past entry before.collected none.collected none.hour)
         (λ owner.
         sum_refused (positive_target program_year owner) (λ hour. positive (target program_year file (prices_in (block_at input hour)) hour owner)) past entry
         (before.targeted owner) (none.target owner) none.hour)
@@ -269,7 +302,9 @@ module _ (file input : List ℕ) where
       record {
         reached = ap (book_at program_year) (ledger_none program_year) ∙ book_at_start program_year;
         prints = ap ledger_lines (sym (ledger_none program_year));
-        collected = no_sum collection (λ hour. positive (amount_in (block_at input hour)));
+        collected =
+            ap (balance_over collection) (ledger_none program_year) ∙ balance_over_none collection
+            ∙ sym (ap (collected_in input) (ap (sum_over hour_count) (ledger_none program_year) ∙ over_none hour_count) ∙ sum_none (λ hour. amount_in (block_at input hour)));
         targeted = λ owner. no_sum (positive_target program_year owner) (λ hour. positive (target program_year file (prices_in (block_at input hour)) hour owner));
         counted = λ _. ap (sum_over hour_count) (ledger_none program_year) ∙ over_none hour_count;
       }

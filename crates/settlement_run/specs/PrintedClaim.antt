@@ -1,8 +1,8 @@
 -- Demand 3, of the lines that a run prints, for every rights file and every input.
 -- Assumes nothing.
-use Rattle.std.specs.Prelude.{ℕ, ◌+◌, ◌<◌, ◌≡◌, true, false, cond, ◌&&◌, ◌⊎◌, List, [], ◌∷◌, ◌++◌, eqb}
+use Rattle.std.specs.Prelude.{ℕ, ◌+◌, ◌<◌, ◌≡◌, true, false, cond, ◌&&◌, ◌⊎◌, List, [], ◌∷◌, ◌++◌, eqb, ℤ, pos, ◌+ℤ◌, ◌≤ℤ◌}
 use Rattle.numbers.specs.Limits.{owners}
-use Rattle.numbers.specs.Lists.{total, list_below}
+use Rattle.numbers.specs.Lists.{total, list_below, sum_below}
 use Rattle.numbers.specs.Refusals.{answer_by}
 use Rattle.numbers.specs.Signs.{positive, negative}
 use Rattle.target.specs.Target.{target}
@@ -35,16 +35,23 @@ event_credit_in letter event owner (owner_line tag number who cents) =
 event_credit_in letter event owner (fund_line month year) = 0
 event_credit_in letter event owner (refusal_line number) = 0
 
--- "the fund left is both surpluses", as the last line prints them
-unfoldable pub fund_in : Line → ℕ
-fund_in (owner_line tag number who cents) = 0
-fund_in (fund_line month year) = month + year
-fund_in (refusal_line number) = 0
+-- "the fund left is both surpluses", each of which is now "a signed balance" (Wish 6), as the last line prints them
+unfoldable pub fund_in : Line → ℤ
+fund_in (owner_line tag number who cents) = pos 0
+fund_in (fund_line month year) = month +ℤ year
+fund_in (refusal_line number) = pos 0
 
--- the sum of what the lines have
-unfoldable pub sum_lines : (Line → ℕ) → List Line → ℕ
-sum_lines part [] = 0
-sum_lines part (line ∷ rest) = part line + sum_lines part rest
+-- what the lines have, put together, where none is what no line has
+unfoldable pub over_lines : {A : Type 0} → A → (A → A → A) → (Line → A) → List Line → A
+over_lines none plus part [] = none
+over_lines none plus part (line ∷ rest) = plus (part line) (over_lines none plus part rest)
+
+-- the sum of what the lines have, of cents and of cents of either sign
+abbrev pub sum_lines : (Line → ℕ) → List Line → ℕ
+sum_lines = over_lines 0 ◌+◌
+
+abbrev pub balance_lines : (Line → ℤ) → List Line → ℤ
+balance_lines = over_lines (pos 0) ◌+ℤ◌
 
 -- of all owners together
 abbrev pub of_owners : (ℕ → ℕ) → ℕ
@@ -52,9 +59,9 @@ of_owners part = total (list_below part owners)
 
 -- ---- what is read from the input, over the hours that were settled
 
--- the amounts collected
-abbrev pub collected_in : List ℕ → ℕ → ℕ
-collected_in input hours = total (list_below (λ hour. positive (amount_in (block_at input hour))) hours)
+-- the amounts collected, of either sign: "Collected may run from -4,000,000,000 up to the old top" (Wish 6)
+abbrev pub collected_in : List ℕ → ℕ → ℤ
+collected_in input hours = sum_below (λ hour. amount_in (block_at input hour)) hours
 
 -- an owner's positive targets, in the program's year
 abbrev pub targets_in : List ℕ → List ℕ → ℕ → ℕ → ℕ
@@ -92,15 +99,15 @@ pub record PrintedClaim (file input : List ℕ) (run : Part) : Type 0 where
   -- what is printed is the lines of its accepted calls
   pub prints : run.printed ≡ ledger_lines (ledger_of program_year run.calls)
   pub credits_printed : CreditsPrinted run.printed (ledger_of program_year run.calls)
-  -- "collected plus charges equals credits plus the fund left"
-  pub closes : collected_in input run.book.hours + of_owners (λ owner. sum_lines (charge_in owner) (all_lines run))
-      ≡ of_owners (λ owner. sum_lines (credit_in owner) (all_lines run)) + fund_left run.book
+  -- "collected plus charges equals credits plus the fund left", where "The fund in the closing equation may be negative" (Wish 6)
+  pub closes : collected_in input run.book.hours +ℤ pos (of_owners (λ owner. sum_lines (charge_in owner) (all_lines run)))
+      ≡ pos (of_owners (λ owner. sum_lines (credit_in owner) (all_lines run))) +ℤ fund_left run.book
   -- and the last line prints that fund, unless the run stopped
-  pub prints_fund : run.refusal ≡ 0 → sum_lines fund_in (all_lines run) ≡ fund_left run.book
+  pub prints_fund : run.refusal ≡ 0 → balance_lines fund_in (all_lines run) ≡ fund_left run.book
   -- "each owner's positive targets equal its credits plus its open shortfall"
   pub owner_closes : (owner : ℕ) → owner < owners
       → targets_in file input owner run.book.hours
       ≡ sum_lines (credit_in owner) (all_lines run) + open_shortfall run.book owner
-  -- "after an accepted year end the fund is empty or no owner is short"
+  -- "an ended year shows a fund of at most zero or no owner short" (Wish 6)
   pub year_closes : run.book.ended ≡ true
-      → (fund_left run.book ≡ 0) ⊎ ((owner : ℕ) → owner < owners → is_short run.book owner ≡ false)
+      → (fund_left run.book ≤ℤ pos 0) ⊎ ((owner : ℕ) → owner < owners → is_short run.book owner ≡ false)

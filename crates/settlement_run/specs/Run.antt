@@ -136,9 +136,10 @@ run_to readable file input (suc n) = and_then (run_to readable file input n) (st
 abbrev pub whole_run : Bool → List ℕ → List ℕ → Part
 whole_run readable file input = run_to readable file input (block_count input)
 
--- "last an `F`, month surplus, year surplus. A refusal prints `R` and its number, no `F`, and stops"
+-- "last an `F`, month surplus, year surplus", each of which is now "a signed balance" (Wish 6). "A refusal prints `R` and its number, no `F`,
+-- and stops"
 unfoldable pub last_line : ℕ → Book → Line
-last_line refusal book = answer_by refusal (fund_line book.monthsurplus book.yearsurplus) (refusal_line refusal)
+last_line refusal book = answer_by refusal (fund_line book.monthbalance book.yearbalance) (refusal_line refusal)
 
 -- all lines of a run
 abbrev pub all_lines : Part → List Line

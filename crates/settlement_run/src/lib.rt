@@ -83,7 +83,7 @@ pub fn step(mut run: Run, rights: &[u8], block: &[u8], text: &mut [u8]) -> Run
     events::close_if_due(closed, End::Year, text)
 }
 
-// The last line: both surpluses, or the refusal that stopped the run.
+// The last line: both balances, with their sign, or the refusal that stopped the run.
 #[tactic(auto, using(crate::proofs::Stepping::lacks_said, numbers::proofs::Refusals::answer_refused), unfolding(crate::specs::Run::last_line))]
 pub fn closing(mut run: Run, text: &mut [u8]) -> Run
     ensures value { result ≡ closed run text.old }
@@ -97,7 +97,7 @@ pub fn closing(mut run: Run, text: &mut [u8]) -> Run
         return run;
     }
     let book = run.book;
-    run.end = statement_text::write_fund(book.monthsurplus, book.yearsurplus, text, at);
+    run.end = statement_text::write_fund(book.monthbalance, book.yearbalance, text, at);
     run
 }
 

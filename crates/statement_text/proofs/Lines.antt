@@ -31,19 +31,20 @@ put_signed_field z put same few =
 -- ---- the lines of a letter and numbers
 
 -- one field more is put behind those before it
-pub put_number : (numbers : List ℕ) (i : ℕ) {t u v : Text} {m : ℕ} → Put (flat_map field (take i numbers)) t u → Put (blank ∷ decimal m) u v
-    → i < length numbers → m ≡ get_or numbers i 0 → get_or numbers i 0 < 2 ^ 64 → Put (flat_map field (take (i + 1) numbers)) t v
-put_number numbers i first second within is below =
+pub put_number : (numbers : List ℤ) (i : ℕ) {t u v : Text} {y : ℤ} → Put (flat_map signed_field (take i numbers)) t u
+    → Put (blank ∷ signed_decimal y) u v → i < length numbers → y ≡ get_or numbers i (pos 0) → nat_abs (get_or numbers i (pos 0)) ≤ 2 ^ 63
+    → Put (flat_map signed_field (take (i + 1) numbers)) t v
+put_number numbers i first second within is few =
     put_as
-    (flat_map_more field [] (take i numbers) (get_or numbers i 0) ∙ ap (flat_map field) (sym (take_more numbers i 0 within)))
-    (put_then first (put_field (get_or numbers i 0) second is below))
+    (flat_map_more signed_field [] (take i numbers) (get_or numbers i (pos 0)) ∙ ap (flat_map signed_field) (sym (take_more numbers i (pos 0) within)))
+    (put_then first (put_signed_field (get_or numbers i (pos 0)) second is few))
 
-pub fund_numbers : (month year : ℕ) → numbers_text 70 (month ∷ year ∷ []) ≡ line_text (fund_line month year)
+pub fund_numbers : (month year : ℤ) → numbers_text 70 (month ∷ year ∷ []) ≡ line_text (fund_line month year)
 unfolding line_text
 fund_numbers month year = simp append-nil
 
-pub refusal_numbers : (number : ℕ) → numbers_text 82 (number ∷ []) ≡ line_text (refusal_line number)
-unfolding line_text
+pub refusal_numbers : (number : ℕ) → numbers_text 82 (pos number ∷ []) ≡ line_text (refusal_line number)
+unfolding line_text signed_digits
 refusal_numbers number = simp append_assoc
 
 -- ---- texts of lines in a row

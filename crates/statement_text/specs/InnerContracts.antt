@@ -1,9 +1,9 @@
 -- For the contracts of inner functions alone, no part of what a writing call promises: one piece of text is written, a line of a
 -- letter and numbers, and the room that the parts of a sentence ask for.
 -- Assumes nothing.
-use Rattle.std.specs.Prelude.{ℕ, ◌+◌, ◌≤◌, ◌≡◌, List, [], ◌∷◌, ◌++◌, length, flat_map}
+use Rattle.std.specs.Prelude.{ℕ, ℤ, ◌+◌, ◌≤◌, ◌≡◌, List, [], ◌∷◌, ◌++◌, length, flat_map}
 use Rattle.statement_text.specs.Buffer.{written}
-use Rattle.statement_text.specs.Text.{newline, field}
+use Rattle.statement_text.specs.Text.{newline, signed_field}
 use Rattle.statement_text.specs.declared.lent.Text.{Text}
 
 -- a text was written at a place, and ends where it is said to end
@@ -19,8 +19,8 @@ pub record Put (piece : List ℕ) (text after : Text) : Type 0 where
   pub inside : after.end ≤ length after.bytes.now
 
 -- a line of a letter and of numbers
-abbrev pub numbers_text : ℕ → List ℕ → List ℕ
-numbers_text letter numbers = (letter ∷ []) ++ flat_map field numbers ++ (newline ∷ [])
+abbrev pub numbers_text : ℕ → List ℤ → List ℕ
+numbers_text letter numbers = (letter ∷ []) ++ flat_map signed_field numbers ++ (newline ∷ [])
 
 -- the most bytes of a sentence's parts: "Month end" and a number; the refusal's word; " is refused:", a number, ", " and the word;
 -- ", record" and a number

@@ -37,16 +37,16 @@ abbrev pub signed_field : ℤ → List ℕ
 signed_field z = (blank ∷ []) ++ signed_digits z
 
 -- a printed line: "an `H`, `M` or `Y`, the hour or month number (0 for the year), owner, cents"; "last an `F`, month surplus, year
--- surplus"; "`R` and its number"
+-- surplus", each of which is now "a signed balance" (Wish 6); "`R` and its number"
 pub data Line : Type 0 where
   owner_line : ℕ → ℕ → ℕ → ℤ → Line
-  fund_line : ℕ → ℕ → Line
+  fund_line : ℤ → ℤ → Line
   refusal_line : ℕ → Line
 
 unfoldable pub line_text : Line → List ℕ
 line_text (owner_line tag number owner cents) =
     (tag ∷ []) ++ field number ++ field owner ++ signed_field cents ++ (newline ∷ [])
-line_text (fund_line month year) = (code "F" ∷ []) ++ field month ++ field year ++ (newline ∷ [])
+line_text (fund_line month year) = (code "F" ∷ []) ++ signed_field month ++ signed_field year ++ (newline ∷ [])
 line_text (refusal_line number) = (code "R" ∷ []) ++ field number ++ (newline ∷ [])
 
 -- the text of lines, one after another

@@ -38,9 +38,9 @@ pub fn write_event(tag: u8, number: u64, lines: &[i64], text: &mut [u8], at: usi
     out.end
 }
 
-// The last line: both surpluses.
+// The last line: both balances, with their sign.
 #[tactic(auto, using(crate::proofs::Lines::fund_numbers))]
-pub fn write_fund(month: u64, year: u64, text: &mut [u8], at: usize) -> usize
+pub fn write_fund(month: i64, year: i64, text: &mut [u8], at: usize) -> usize
     ensures value { result ≡ end_after line_room (line_text (fund_line month year)) text.old at }
     ensures text_after { text.new ≡ text_after line_room (line_text (fund_line month year)) text.old at }
 {
@@ -53,11 +53,11 @@ pub fn write_refusal(number: u8, text: &mut [u8], at: usize) -> usize
     ensures value { result ≡ end_after line_room (line_text (refusal_line number)) text.old at }
     ensures text_after { text.new ≡ text_after line_room (line_text (refusal_line number)) text.old at }
 {
-    write_numbers(b'R', &[u64::from(number)], text, at)
+    write_numbers(b'R', &[i64::from(number)], text, at)
 }
 
 // A line of a letter and of three numbers at most, behind a place of the buffer.
-fn write_numbers(letter: u8, numbers: &[u64], text: &mut [u8], at: usize) -> usize
+fn write_numbers(letter: u8, numbers: &[i64], text: &mut [u8], at: usize) -> usize
     requires { length numbers.now ≤ 3 }
     ensures value { result ≡ end_after line_room (numbers_text letter numbers.now) text.old at }
     ensures text_after { text.new ≡ text_after line_room (numbers_text letter numbers.now) text.old at }

@@ -2,15 +2,18 @@
 //! from a book whose year is outside. The book is carried by the library's words on
 //! one side and by the second calculation's book on the other.
 
+mod negative_hours;
+
 use reference::book::Book;
 use reference::draws::Draws;
 use reference::rights::{encode, Right};
-use reference::words::{counts_of, run, shortfalls_of, surpluses_of, Event};
-use reference::words::{COUNTS, SETTLED, SHORTFALLS, SURPLUSES};
+use reference::words::{balances_of, counts_of, run, shortfalls_of, Event};
+use reference::words::{BALANCES, COUNTS, SETTLED, SHORTFALLS};
 
 use crate::compare::{Case, Kind};
 use crate::drawn::{
-    calendar_for, days_of, draw_good_year, name_of, old_line, old_lines, Market, OUTSIDE,
+    amount_towards, calendar_for, days_of, draw_good_year, name_of, old_line, old_lines, Market,
+    OUTSIDE,
 };
 use crate::ledger::Ledger;
 use crate::lent::{Given, Lent, Row};
@@ -27,23 +30,23 @@ const MOST_CALLS: u64 = 200_000;
 const BLOCK: u64 = 100;
 const FAR_PRICES: [i32; 4] = [-500_000, 500_000, 500_000, -500_000];
 
-/// Makes an hour too large at far prices.
-const LARGE: Right = Right {
-    owner: 5,
-    source: 0,
-    sink: 1,
-    kind: 0,
-    class: 2,
-    size: 100_000,
-    first: 1,
-    last: 365,
-};
+/// What a list is like.
+struct Plan {
+    year: u64,
+    /// Makes a list poor or rich.
+    luck: u64,
+    /// Makes amounts below 0 larger; if it is 0 there are none.
+    below_0: u64,
+    /// What F the hours of the last day bring the year end to, if any.
+    year_fund: Option<i64>,
+}
 
-/// What stays the same within a block.
+/// What stays the same within a block. An amount is the difference of two draws.
 struct Block {
     rights: Vec<u8>,
     highest_price: u64,
     most_collected: u64,
+    most_negative: u64,
 }
 
 /// What one hour is lent.
@@ -71,17 +74,19 @@ fn draw_right(draws: &mut Draws, days: u64, owners: u64, sizes: (u64, u64)) -> R
     }
 }
 
-/// Few rights and a size of market; `luck` makes a list poor or rich.
-fn draw_block(draws: &mut Draws, year: u64, luck: u64) -> Block {
+/// Few rights and a size of market.
+fn draw_block(draws: &mut Draws, plan: &Plan) -> Block {
+    let Plan { luck, below_0, .. } = plan;
     let records = draws.below(9);
     let owners = draws.one_of(&[64, 4]);
     let sizes = draws.one_of(&[(1, 100), (1, 10), (10, 100), (100, 100)]);
-    let days = days_of(year);
+    let days = days_of(plan.year);
     let right = |_| encode(&draw_right(draws, days, owners, sizes));
     Block {
         rights: (0..records).flat_map(right).collect(),
         highest_price: draws.one_of(&[100, 2_000, 10_000]),
         most_collected: draws.one_of(&[1, 10_000, 100_000 * luck, 500_000 * luck]),
+        most_negative: 1 + below_0 * draws.one_of(&[0, 1, 10_000, 200_000]),
     }
 }
 
@@ -93,24 +98,46 @@ fn draw_hour(draws: &mut Draws, block: &Block) -> Hour {
         rights: Row::lent(&block.rights, block.rights.len(), || 0),
         prices: Row::lent(&prices, 4, || 500_001),
     };
+    let [above, below] = [block.most_collected, block.most_negative].map(|most| draws.below(most));
     Hour {
         market,
-        collected: draws.below(block.most_collected) as i64,
+        collected: above as i64 - below as i64,
     }
 }
 
-/// Lends just the large right, at these prices.
-fn lend_large(market: &mut Market, prices: [i32; 4]) {
-    market.rights = Row::lent(&encode(&LARGE), 16, || 0);
+/// Nothing is wanted or charged.
+fn quiet_hour(collected: i64) -> Hour {
+    let market = Market {
+        rights: Row::lent(&[], 0, || 0),
+        prices: Row::lent(&[0; 4], 4, || 0),
+    };
+    Hour { market, collected }
+}
+
+/// Lends just one right, for all hours of a year and so large that an hour is too large
+/// at far prices.
+fn lend_large(market: &mut Market, year: u64, prices: [i32; 4]) {
+    let large = Right {
+        owner: 5,
+        source: 0,
+        sink: 1,
+        kind: 0,
+        class: 2,
+        size: 100_000,
+        first: 1,
+        last: days_of(year),
+    };
+    market.rights = Row::lent(&encode(&large), 16, || 0);
     market.prices = Row::lent(&prices, 4, || 0);
 }
 
 /// What makes an hour refused, in a part of the calls.
-fn put_trouble(draws: &mut Draws, hour: &mut Hour, open: u64) {
+fn put_trouble(draws: &mut Draws, hour: &mut Hour, book: &Book) {
+    let open = shortfalls_of(book).iter().sum();
     let market = &mut hour.market;
     match draws.below(64) {
         0 => market.prices.cells[1] = 500_001,
-        1 => hour.collected = -1,
+        1 => hour.collected = -4_000_000_001,
         2 => hour.collected = 4_000_000_000_001,
         3 => market.prices.lent = 0,
         4 => market.prices = Row::lent(&[0; 1_025], 1_025, || 0),
@@ -118,10 +145,10 @@ fn put_trouble(draws: &mut Draws, hour: &mut Hour, open: u64) {
         6 => market.prices.lent = 2,
         7 => market.rights = Row::lent(&[0; 16], 16, || 0),
         8 => market.prices.cells[..4].copy_from_slice(&FAR_PRICES),
-        9 => lend_large(market, FAR_PRICES),
+        9 => lend_large(market, book.year, FAR_PRICES),
         // 4,000,000,000 are wanted: with any shortfall open that is too much
         10 if open > 0 => {
-            lend_large(market, [-200_000, 200_000, 0, 0]);
+            lend_large(market, book.year, [-200_000, 200_000, 0, 0]);
             hour.collected = draws.below(open) as i64;
         }
         _ => {}
@@ -147,13 +174,13 @@ fn second_given(book: &mut Book, event: Event, lent: &Lent) -> Given {
     let mut after = lent.clone();
     let result = run(event, *book, after.lines.slice_mut());
     *book = result.book;
-    let settled = [result.record, result.fund, result.wants].map(|word| word as i64);
+    let settled = [result.record as i64, result.fund, result.wants as i64];
     after.settled.slice_mut().copy_from_slice(&settled);
     after.counts.slice_mut().copy_from_slice(&counts_of(book));
     let shortfalls = after.shortfalls.slice_mut();
     shortfalls.copy_from_slice(&shortfalls_of(book));
-    let surpluses = after.surpluses.slice_mut();
-    surpluses.copy_from_slice(&surpluses_of(book));
+    let balances = after.balances.slice_mut();
+    balances.copy_from_slice(&balances_of(book));
     Given {
         refusal: result.refusal,
         lent: after,
@@ -165,18 +192,20 @@ fn opened(draws: &mut Draws, year: u64, refusal: u64) -> Lent {
     let mut lent = Lent {
         counts: Row::lent(&[], COUNTS, || draws.any()),
         shortfalls: Row::lent(&[], SHORTFALLS, || draws.any()),
-        surpluses: Row::lent(&[], SURPLUSES, || old_line(draws)),
+        balances: Row::lent(&[], BALANCES, || old_line(draws)),
         ..Lent::default()
     };
     assert_eq!(library::open(year, lent.book()), refusal);
     lent
 }
 
-/// There are few ends that are due, so more of them get a wrong number of lines.
+/// There are few ends that are due, and only one year end, so more of them get a wrong
+/// number of lines.
 fn draw_lines(draws: &mut Draws, event: Event, lent: &mut Lent) {
     let odds = match event {
         Event::Hour(_) => 64,
-        Event::MonthEnd | Event::YearEnd => 4,
+        Event::MonthEnd => 4,
+        Event::YearEnd => 2,
     };
     let wrong = draws.one_of(&[0, 63, 65]);
     let count = if draws.once_in(odds) { wrong } else { 64 };
@@ -184,24 +213,76 @@ fn draw_lines(draws: &mut Draws, event: Event, lent: &mut Lent) {
     lent.settled = Row::lent(&[], SETTLED, || old_line(draws));
 }
 
-/// A list as it runs: the library's words, the second calculation's book, and
-/// the ledger.
+/// A list as it runs: the library's words, the second calculation's book, the ledger,
+/// and the name and F of each accepted event.
 struct List {
     words: Lent,
     book: Book,
     ledger: Ledger,
+    accepted: Vec<(&'static str, i64)>,
 }
 
-fn compare_call(case: &mut Case, list: &mut List, block: &Block) {
+impl List {
+    /// A list from a fresh book of a year.
+    fn new(draws: &mut Draws, year: u64) -> List {
+        List {
+            words: opened(draws, year, 0),
+            book: Book::fresh(year),
+            ledger: Ledger::new(year),
+            accepted: Vec::new(),
+        }
+    }
+
+    /// One event on both sides, entered into the ledger.
+    fn call(&mut self, case: &mut Case, event: Event) {
+        let library = settled(case, &self.words, &mut self.book, event);
+        self.ledger.enter(event, &library);
+        self.words = library.lent;
+        if library.refusal == 0 {
+            let fund = self.words.settled.cells[1];
+            self.accepted.push((name_of(event), fund));
+        }
+    }
+
+    /// At its end all hours, month ends and the year end have been accepted.
+    fn check_end(&self, case: &mut Case) {
+        let Ledger {
+            hours,
+            months,
+            year_ends,
+            ..
+        } = self.ledger;
+        let all = calendar_for(self.book.year).hours();
+        assert_eq!((hours, months, year_ends), (all, 12, 1), "accepted");
+        case.came("hours of an ended year", all);
+    }
+}
+
+/// An hour. Where the year end's F is planned each month begins with an hour whose F is
+/// negative, and the hours of the last day bring that F about.
+fn draw_next_hour(draws: &mut Draws, book: &Book, plan: &Plan, block: &Block) -> Hour {
+    let last_day = calendar_for(plan.year).hours() - 24;
+    match plan.year_fund {
+        Some(_) if begins_month(book) => quiet_hour(-1 - draws.below(1_000_000) as i64),
+        Some(fund) if book.hours >= last_day => quiet_hour(amount_towards(book, fund)),
+        _ => draw_hour(draws, block),
+    }
+}
+
+/// The next hour is the first of its month.
+fn begins_month(book: &Book) -> bool {
+    let ends = calendar_for(book.year).month_ends;
+    let last = book.months.checked_sub(1).map(|month| ends[month as usize]);
+    book.hours == last.unwrap_or(0)
+}
+
+fn compare_call(case: &mut Case, list: &mut List, plan: &Plan, block: &Block) {
     let draws = &mut case.draws;
-    let mut hour = draw_hour(draws, block);
-    let open = shortfalls_of(&list.book).iter().sum();
-    put_trouble(draws, &mut hour, open);
+    let mut hour = draw_next_hour(draws, &list.book, plan, block);
+    put_trouble(draws, &mut hour, &list.book);
     let event = draw_event(draws, &list.book, &hour);
     draw_lines(draws, event, &mut list.words);
-    let library = settled(case, &list.words, &mut list.book, event);
-    list.ledger.enter(event, &library);
-    list.words = library.lent;
+    list.call(case, event);
 }
 
 /// An event on both sides; gives what the library gave.
@@ -215,28 +296,39 @@ fn settled(case: &mut Case, words: &Lent, book: &mut Book, event: Event) -> Give
     library
 }
 
-fn compare_list(case: &mut Case, year: u64) {
-    let luck = case.draws.below(4) + 1;
-    let mut block = draw_block(&mut case.draws, year, luck);
-    let mut list = List {
-        words: opened(&mut case.draws, year, 0),
-        book: Book::fresh(year),
-        ledger: Ledger::new(year),
-    };
+fn compare_list(case: &mut Case, plan: &Plan) -> List {
+    let mut block = draw_block(&mut case.draws, plan);
+    let mut list = List::new(&mut case.draws, plan.year);
     let (mut calls, mut late_calls) = (0, 0);
     while (calls < CALLS || late_calls < LATE_CALLS) && calls < MOST_CALLS {
         if calls % BLOCK == 0 {
-            block = draw_block(&mut case.draws, year, luck);
+            block = draw_block(&mut case.draws, plan);
         }
         late_calls += u64::from(list.book.ended);
-        compare_call(case, &mut list, &block);
+        compare_call(case, &mut list, plan, &block);
         calls += 1;
     }
-    let ledger = &list.ledger;
-    let accepted = (ledger.hours, ledger.months, ledger.year_ends);
-    let hours = calendar_for(year).hours();
-    assert_eq!(accepted, (hours, 12, 1), "accepted in the list of {year}");
-    case.came("hours of an ended year", hours);
+    list.check_end(case);
+    list
+}
+
+/// No hour collects less than nothing.
+fn ordinary(draws: &mut Draws, year: u64) -> Plan {
+    Plan {
+        year,
+        luck: draws.below(4) + 1,
+        below_0: 0,
+        year_fund: None,
+    }
+}
+
+/// No F of such a list is negative either.
+fn compare_ordinary_list(case: &mut Case, year: u64) {
+    let plan = ordinary(&mut case.draws, year);
+    let list = compare_list(case, &plan);
+    let negative = list.accepted.iter().find(|(_, fund)| *fund < 0);
+    assert_eq!(negative, None);
+    assert!(list.book.month_balance >= 0 && list.book.year_balance >= 0);
 }
 
 /// What must come in the lists of a test: their refusals, and hours of ended years.
@@ -265,7 +357,7 @@ fn years() {
         cases: 48,
         refusals: IN_2025,
     };
-    kind.run(|case| compare_list(case, 2_025));
+    kind.run(|case| compare_ordinary_list(case, 2_025));
 }
 
 #[test]
@@ -278,7 +370,7 @@ fn other_years() {
     };
     kind.run(|case| {
         let year = draw_good_year(&mut case.draws);
-        compare_list(case, year);
+        compare_ordinary_list(case, year);
     });
 }
 
@@ -294,7 +386,7 @@ fn named_years() {
         cases: YEARS.len() as u64,
         refusals: IN_OTHER_YEARS,
     };
-    kind.run(|case| compare_list(case, YEARS[case.seed as usize % YEARS.len()]));
+    kind.run(|case| compare_ordinary_list(case, YEARS[case.seed as usize % YEARS.len()]));
 }
 
 /// The book is opened with a year outside, which gives it all 0: each call is then
@@ -306,11 +398,12 @@ fn compare_refused_list(case: &mut Case) {
         .one_of(&[2_024, 2_100, any, OUTSIDE[0], OUTSIDE[5]]);
     let mut words = opened(&mut case.draws, year, 15);
     let mut book = Book::fresh(0);
-    let block = draw_block(&mut case.draws, year, 1);
+    let plan = ordinary(&mut case.draws, year);
+    let block = draw_block(&mut case.draws, &plan);
     for _ in 0..50 {
         let draws = &mut case.draws;
         let mut hour = draw_hour(draws, &block);
-        put_trouble(draws, &mut hour, 0);
+        put_trouble(draws, &mut hour, &book);
         let event = draw_event(draws, &book, &hour);
         draw_lines(draws, event, &mut words);
         let given = settled(case, &words, &mut book, event);

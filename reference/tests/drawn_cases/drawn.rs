@@ -4,11 +4,13 @@
 mod blocks;
 mod books;
 mod market;
+mod year_funds;
 mod years;
 
 pub use blocks::*;
 pub use books::*;
 pub use market::*;
+pub use year_funds::*;
 pub use years::*;
 
 use reference::draws::Draws;

@@ -11,7 +11,7 @@ use reference::book::Book;
 use reference::rights::{encode, Right, RECORD};
 use reference::step::HOUR_BYTES;
 use reference::words::{Event, OUTCOME, SETTLED, STEPPED, STEP_ROOM};
-use reference::words::{COUNTS, SHORTFALLS, SURPLUSES};
+use reference::words::{BALANCES, COUNTS, SHORTFALLS};
 
 use crate::compare::{Case, Kind};
 use crate::drawn::{hour_bytes, lend_book, old_lines, old_text, Market, OUTSIDE};
@@ -283,7 +283,7 @@ impl Call {
     }
 
     fn settle(&self, case: &mut Case, event: Event) -> (u64, u64) {
-        let words = [COUNTS, SHORTFALLS, SURPLUSES];
+        let words = [COUNTS, SHORTFALLS, BALANCES];
         let mut lent = lend_book(&mut case.draws, &self.book, words);
         lent.lines = old_lines(&mut case.draws, 64 - self.lacking);
         lent.settled = Row::lent(&[], SETTLED, || OLD as i64);
@@ -298,7 +298,7 @@ impl Call {
             rights: self.rights.clone(),
             bytes: Row::lent(&bytes, self.block, || 0),
         };
-        let words = [COUNTS, SHORTFALLS, SURPLUSES];
+        let words = [COUNTS, SHORTFALLS, BALANCES];
         let mut lent = lend_book(&mut case.draws, &self.book, words);
         lent.report = Row::lent(&[], STEPPED, || OLD);
         lent.text = old_text(&mut case.draws, STEP_ROOM);
@@ -442,7 +442,7 @@ const CHANGED_BOOK: [Changed; 8] = [
         call.book.ended = true;
     }),
     (3, |call| call.book.hours = 720),
-    (6, |call| call.collected = -1),
+    (6, |call| call.collected = -4_000_000_001),
     (6, |call| call.collected = 4_000_000_000_001),
     (9, |call| lend_large(call, [-500_000, 500_000])),
     (10, fill_carry),

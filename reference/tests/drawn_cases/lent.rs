@@ -31,7 +31,7 @@ impl<T: Copy> Row<T> {
 pub struct Lent {
     pub counts: Row<u64>,
     pub shortfalls: Row<u64>,
-    pub surpluses: Row<i64>,
+    pub balances: Row<i64>,
     pub lines: Row<i64>,
     pub payments: Row<u64>,
     /// The day table.
@@ -74,7 +74,7 @@ impl Lent {
         let book = BookWords {
             counts: self.counts.slice_mut(),
             shortfalls: self.shortfalls.slice_mut(),
-            surpluses: self.surpluses.slice_mut(),
+            balances: self.balances.slice_mut(),
         };
         (book, self.lines.slice_mut(), self.settled.slice_mut())
     }
@@ -85,7 +85,7 @@ impl Lent {
         let book = BookWords {
             counts: self.counts.slice_mut(),
             shortfalls: self.shortfalls.slice_mut(),
-            surpluses: self.surpluses.slice_mut(),
+            balances: self.balances.slice_mut(),
         };
         let bytes = self.text.slice_mut();
         let text = LentText { bytes, end };
@@ -101,7 +101,7 @@ impl Lent {
         [
             plain("counts", &self.counts),
             plain("shortfalls", &self.shortfalls),
-            plain("surpluses", &self.surpluses),
+            plain("balances", &self.balances),
             plain("lines", &self.lines),
             plain("payments", &self.payments),
             plain("table", &self.table),
@@ -137,7 +137,7 @@ const STEPPED_NAMES: [&str; STEPPED] = [
 fn cell_name(row: &str, lent: usize, at: usize) -> String {
     let names: &[&str] = match (row, lent) {
         ("counts", _) => &["hours settled", "months closed", "ended mark", "year"],
-        ("surpluses", _) => &["month surplus", "year surplus"],
+        ("balances", _) => &["month balance", "year balance"],
         ("report of the event", _) => &["record number", "F", "D"],
         ("report", 3) => &["day", "month", "peak"],
         ("report", 8 | 10) => &STEP_NAMES,

@@ -7,7 +7,7 @@ use reference::book::{Book, HourInput};
 use reference::calendar::calendar_of;
 use reference::draws::Draws;
 use reference::split::{Limits, HALL, SMALL_POOL};
-use reference::words::{self, Event, COUNTS, SETTLED, SHORTFALLS, SURPLUSES};
+use reference::words::{self, Event, BALANCES, COUNTS, SETTLED, SHORTFALLS};
 use reference::words::{CLOSED, STEPPED, STEP_ROOM};
 
 use crate::calendar::{compare_calendar, compare_days};
@@ -130,7 +130,7 @@ fn refusal_of_words(book: &Book, counts: [usize; 3]) -> u64 {
 const PARTS: [&str; 4] = [
     "counts of another number",
     "shortfalls of another number",
-    "surpluses of another number",
+    "balances of another number",
     "report of another number",
 ];
 
@@ -138,7 +138,7 @@ const PARTS: [&str; 4] = [
 fn compare_event_report(case: &mut Case, event: Event) {
     let draws = &mut case.draws;
     let book = draw_book(draws);
-    let counts = [COUNTS, SHORTFALLS, SURPLUSES].map(|usual| number_of(draws, usual, 8));
+    let counts = [COUNTS, SHORTFALLS, BALANCES].map(|usual| number_of(draws, usual, 8));
     let refusal = refusal_of_words(&book, counts);
     let mut lent = lend_book(draws, &book, counts);
     spoil_words(draws, &mut lent, 3);
@@ -153,7 +153,7 @@ fn compare_event_report(case: &mut Case, event: Event) {
 fn compare_event_book(case: &mut Case, event: Event) {
     let draws = &mut case.draws;
     let book = draw_book(draws);
-    let mut counts = [COUNTS, SHORTFALLS, SURPLUSES];
+    let mut counts = [COUNTS, SHORTFALLS, BALANCES];
     let at = draws.below(3) as usize;
     counts[at] = wrong(draws, counts[at]);
     let refusal = refusal_of_words(&book, counts);
@@ -170,11 +170,11 @@ fn compare_event_book(case: &mut Case, event: Event) {
 /// What a step and a closing are lent on this book, of which one part has another
 /// number of words; the name of the part, and what a step is refused with.
 fn wrong_words(draws: &mut Draws, book: &Book, report_words: usize) -> (Lent, &'static str, u64) {
-    let mut words = [COUNTS, SHORTFALLS, SURPLUSES, report_words];
+    let mut words = [COUNTS, SHORTFALLS, BALANCES, report_words];
     let at = draws.below(4) as usize;
     words[at] = wrong(draws, words[at]);
-    let [counts, shortfalls, surpluses, report] = words;
-    let counts = [counts, shortfalls, surpluses];
+    let [counts, shortfalls, balances, report] = words;
+    let counts = [counts, shortfalls, balances];
     let mut lent = lend_book(draws, book, counts);
     spoil_words(draws, &mut lent, 3);
     lent.report = old_words(draws, report);
@@ -212,7 +212,7 @@ fn compare_run_calls(case: &mut Case) {
     refused_unmoved(4, &given, &lent, CLOSED, end);
 }
 
-/// A book's year, mark and month surplus.
+/// A book's year, mark and month balance.
 type Values = (u64, u64, i64);
 
 /// Each is the usual number of words, none, one less or one more, by two bits of a
@@ -226,10 +226,10 @@ fn numbers_by(number: usize, usual: [usize; 4]) -> [usize; 4] {
     })
 }
 
-/// What such counts, shortfalls, surpluses and report are refused with, in the order
+/// What such counts, shortfalls, balances and report are refused with, in the order
 /// of the header; none where the call itself has its say.
 fn first_refusal(values: Values, numbers: [usize; 4], usual: [usize; 4]) -> Option<u64> {
-    let (year, mark, surplus) = values;
+    let (year, mark, _) = values;
     let wrong = |at: usize| numbers[at] != usual[at];
     let cases = [
         (4, wrong(0)),
@@ -238,28 +238,37 @@ fn first_refusal(values: Values, numbers: [usize; 4], usual: [usize; 4]) -> Opti
         (4, wrong(2)),
         (4, wrong(3)),
         (1, mark > 1),
-        (1, surplus < 0),
     ];
     let first = cases.into_iter().find(|(_, applies)| *applies);
     first.map(|(number, _)| number)
 }
 
 fn lend_values(draws: &mut Draws, values: Values, numbers: [usize; 4]) -> Lent {
-    let (year, mark, surplus) = values;
-    let [counts, shortfalls, surpluses, _] = numbers;
+    let (year, mark, month_balance) = values;
+    let [counts, shortfalls, balances, _] = numbers;
     let book = Book {
-        month_surplus: surplus as u64,
+        month_balance,
         ..Book::fresh(year)
     };
-    let mut lent = lend_book(draws, &book, [counts, shortfalls, surpluses]);
+    let mut lent = lend_book(draws, &book, [counts, shortfalls, balances]);
     if let Some(cell) = lent.counts.slice_mut().get_mut(2) {
         *cell = mark;
     }
     lent
 }
 
+/// What an event gives on a book that is fresh but for its month balance: after 0 hours
+/// the bounds of 1 are 0, and no end is due.
+fn refusal_of_fresh(event: Event, balance: i64) -> u64 {
+    match event {
+        _ if balance != 0 => 1,
+        Event::Hour(_) => 0,
+        Event::MonthEnd | Event::YearEnd => 3,
+    }
+}
+
 fn compare_ordered_event(case: &mut Case, event: Event, values: Values, number: usize) {
-    let usual = [COUNTS, SHORTFALLS, SURPLUSES, SETTLED];
+    let usual = [COUNTS, SHORTFALLS, BALANCES, SETTLED];
     let numbers = numbers_by(number, usual);
     let draws = &mut case.draws;
     let mut lent = lend_values(draws, values, numbers);
@@ -267,7 +276,8 @@ fn compare_ordered_event(case: &mut Case, event: Event, values: Values, number: 
     lent.settled = Row::lent(&[], numbers[3], || old_line(draws));
     let given = compare_event(case, event, &lent);
     let Some(refusal) = first_refusal(values, numbers, usual) else {
-        assert!([0, 3].contains(&given.refusal));
+        let (_, _, balance) = values;
+        assert_eq!(given.refusal, refusal_of_fresh(event, balance));
         return;
     };
     if numbers[3] == SETTLED {
@@ -276,49 +286,65 @@ fn compare_ordered_event(case: &mut Case, event: Event, values: Values, number: 
     refused_untouched(refusal, &given, &lent);
 }
 
-/// A step, and a closing, which doesn't look at the year.
-fn compare_ordered_run_calls(case: &mut Case, values: Values, number: usize) {
-    let [step, closing] = [STEPPED, CLOSED].map(|report| [COUNTS, SHORTFALLS, SURPLUSES, report]);
-    let lend = |draws: &mut Draws, numbers: [usize; 4]| Lent {
+/// What a step and a closing are lent, with so much text that both have room.
+fn lend_run_values(draws: &mut Draws, values: Values, numbers: [usize; 4]) -> Lent {
+    Lent {
         report: old_words(draws, numbers[3]),
         text: old_text(draws, 7 + STEP_ROOM),
         ..lend_values(draws, values, numbers)
-    };
-    let numbers = numbers_by(number, step);
-    let lent = lend(&mut case.draws, numbers);
+    }
+}
+
+/// A step. The bounds of 1 are the hour's to look at, so that it is named.
+fn compare_ordered_step(case: &mut Case, values: Values, number: usize) {
+    let usual = [COUNTS, SHORTFALLS, BALANCES, STEPPED];
+    let numbers = numbers_by(number, usual);
+    let lent = lend_run_values(&mut case.draws, values, numbers);
     let bytes = block(0, &[]);
     let block = Block {
         rights: Row::lent(&[], 0, || 0),
         bytes: Row::lent(&bytes, bytes.len(), || 0),
     };
     let given = compare_block(case, &Step { block, end: 7 }, &lent);
-    match first_refusal(values, numbers, step) {
-        None => assert_eq!(given.refusal, 0),
-        Some(refusal) => refused_unmoved(refusal, &given, &lent, STEPPED, 7),
+    if let Some(refusal) = first_refusal(values, numbers, usual) {
+        refused_unmoved(refusal, &given, &lent, STEPPED, 7);
+        return;
     }
-    let numbers = numbers_by(number, closing);
-    let lent = lend(&mut case.draws, numbers);
-    let given = compare_closing(case, 4, 7, &lent);
-    let (_, mark, surplus) = values;
-    match first_refusal((2_025, mark, surplus), numbers, closing) {
-        None => assert_eq!(given.refusal, 0),
-        Some(refusal) => refused_unmoved(refusal, &given, &lent, CLOSED, 7),
+    let (_, _, balance) = values;
+    let (refusal, letter) = if balance == 0 { (0, 0) } else { (1, 72) };
+    assert_eq!(given.refusal, refusal);
+    assert_eq!(given.lent.report.slice(), [0, 7, letter, 0, 0]);
+}
+
+/// A closing, which doesn't look at the year and prints any balances.
+fn compare_ordered_closing(case: &mut Case, values: Values, number: usize) {
+    let usual = [COUNTS, SHORTFALLS, BALANCES, CLOSED];
+    let numbers = numbers_by(number, usual);
+    let lent = lend_run_values(&mut case.draws, values, numbers);
+    let given = compare_closing(case, 0, 7, &lent);
+    let (_, mark, balance) = values;
+    if let Some(refusal) = first_refusal((2_025, mark, balance), numbers, usual) {
+        refused_unmoved(refusal, &given, &lent, CLOSED, 7);
+        return;
     }
+    let line = format!("F {balance} 0\n");
+    assert_eq!(given.refusal, 0);
+    assert_eq!(given.lent.text.cells[7..7 + line.len()], *line.as_bytes());
 }
 
 fn compare_open(case: &mut Case) {
     let draws = &mut case.draws;
-    let [counts, shortfalls, surpluses] =
-        [COUNTS, SHORTFALLS, SURPLUSES].map(|usual| number_of(draws, usual, 6));
+    let [counts, shortfalls, balances] =
+        [COUNTS, SHORTFALLS, BALANCES].map(|usual| number_of(draws, usual, 6));
     let lent = Lent {
         counts: old_words(draws, counts),
         shortfalls: old_words(draws, shortfalls),
-        surpluses: old_lines(draws, surpluses),
+        balances: old_lines(draws, balances),
         ..Lent::default()
     };
     let year = draw_year(draws);
     let given = compare_opening(case, year, &lent);
-    if [counts, shortfalls, surpluses] != [COUNTS, SHORTFALLS, SURPLUSES] {
+    if [counts, shortfalls, balances] != [COUNTS, SHORTFALLS, BALANCES] {
         refused_untouched(refusal_in(year), &given, &lent);
         return;
     }
@@ -330,7 +356,7 @@ fn compare_open(case: &mut Case) {
     assert_eq!(given.refusal, refusal);
     assert_eq!(given.lent.counts.slice(), [0, 0, 0, kept]);
     assert_eq!(given.lent.shortfalls.slice(), [0; SHORTFALLS]);
-    assert_eq!(given.lent.surpluses.slice(), [0; SURPLUSES]);
+    assert_eq!(given.lent.balances.slice(), [0; BALANCES]);
 }
 
 pub fn compare_opening(case: &mut Case, year: u64, lent: &Lent) -> Given {
@@ -355,7 +381,8 @@ fn opening() {
 }
 
 /// All of what is looked at, together: 256 numbers of words with a good book, one with
-/// a wrong mark and one with a surplus below 0. The seed is the place of the year.
+/// a wrong mark and one with a balance outside its bounds. The seed is the place of the
+/// year.
 #[test]
 fn the_order() {
     let years = [2_025, 2_027, 2_099, 0, 2_024, 2_100, u64::MAX];
@@ -379,12 +406,13 @@ fn the_order() {
             collected: 0,
         });
         for number in 0..256 {
-            for (mark, surplus) in [(0, 0), (2, 0), (0, -1)] {
-                let values = (year, mark, surplus);
+            for (mark, balance) in [(0, 0), (2, 0), (0, -1)] {
+                let values = (year, mark, balance);
                 for event in [hour, Event::MonthEnd, Event::YearEnd] {
                     compare_ordered_event(case, event, values, number);
                 }
-                compare_ordered_run_calls(case, values, number);
+                compare_ordered_step(case, values, number);
+                compare_ordered_closing(case, values, number);
             }
         }
     });
@@ -418,7 +446,7 @@ fn numbers_of_words() {
         compare_without_book(case);
         compare_run_calls(case);
         let market = any_market(&mut case.draws, 2_025);
-        let collected = case.draws.one_of(&[0, 1_000, -1]);
+        let collected = case.draws.one_of(&[0, 1_000, -1, -4_000_000_001]);
         let hour = Event::Hour(market.hour(collected));
         for event in [hour, Event::MonthEnd, Event::YearEnd] {
             compare_event_report(case, event);

@@ -3,7 +3,7 @@
 use reference::book::{Book, HourInput};
 use reference::draws::Draws;
 use reference::rights::{encode, Right};
-use reference::words::{Event, COUNTS, SETTLED, SHORTFALLS, SURPLUSES};
+use reference::words::{Event, BALANCES, COUNTS, SETTLED, SHORTFALLS};
 
 use crate::compare::{Case, Kind};
 use crate::drawn::{calendar_for, draw_year, lend_book, old_line, old_lines};
@@ -77,10 +77,29 @@ impl Edge {
     }
 }
 
-/// A shortfall that the hour brings to the limit, or one cent from it.
-fn draw_shortfall(draws: &mut Draws, book: &mut Book, edge: &Edge, collected: u64) {
+/// What the hour's F is.
+fn fund_of(edge: &Edge, collected: i64) -> i64 {
+    collected + (edge.cents(2) + edge.cents(3)) as i64
+}
+
+/// An amount of at least 0, any below it, or one that makes F 0 or brings it beside 0,
+/// where an amount in its range does that.
+fn draw_collected(draws: &mut Draws, edge: &Edge) -> i64 {
+    let most = draws.one_of(&[1, 1, 1_000_001, 4_000_000_001]);
+    let collected = draws.below(most) as i64;
+    let to_zero = 1 - draws.below(3) as i64 - fund_of(edge, 0);
+    match draws.below(4) {
+        0 => -collected,
+        1 => to_zero.max(-4_000_000_000),
+        _ => collected,
+    }
+}
+
+/// A shortfall that the hour brings to the limit, or one cent from it; if F is
+/// negative, by all that is wanted.
+fn draw_shortfall(draws: &mut Draws, book: &mut Book, edge: &Edge, collected: i64) {
     let wants = edge.cents(0) + edge.cents(1);
-    let fund = collected + edge.cents(2) + edge.cents(3);
+    let fund = fund_of(edge, collected).max(0) as u64;
     let room = TOP.saturating_sub(wants.saturating_sub(fund));
     let shortfall = draws.one_of(&[room, room + 1, room.saturating_sub(1), 0]);
     let owner = draws.below(64) as usize;
@@ -94,18 +113,20 @@ fn compare_hour(case: &mut Case) {
     let draws = &mut case.draws;
     let mut book = draw_time(draws);
     let edge = draw_edge(draws);
-    let most = draws.one_of(&[1, 1, 1_000_001, 4_000_000_001]);
-    let collected = draws.below(most);
+    let collected = draw_collected(draws, &edge);
     draw_shortfall(draws, &mut book, &edge, collected);
-    let mut lent = lend_book(draws, &book, [COUNTS, SHORTFALLS, SURPLUSES]);
+    let mut lent = lend_book(draws, &book, [COUNTS, SHORTFALLS, BALANCES]);
     lent.lines = old_lines(draws, 64);
     lent.settled = Row::lent(&[], SETTLED, || old_line(draws));
     let event = Event::Hour(HourInput {
         rights: &edge.rights(),
         prices: &edge.prices(),
-        collected: collected as i64,
+        collected,
     });
-    compare_event(case, event, &lent);
+    let given = compare_event(case, event, &lent);
+    if fund_of(&edge, collected) < 0 {
+        case.came("hour with a negative fund", given.refusal);
+    }
 }
 
 #[test]
@@ -114,7 +135,10 @@ fn hours_at_the_limits() {
         test: "limits::hours_at_the_limits",
         base: Some(3_935_559_000_370_003_845),
         cases: 100_000,
-        refusals: &[("hour", &[0, 1, 9, 10, 15])],
+        refusals: &[
+            ("hour", &[0, 1, 9, 10, 15]),
+            ("hour with a negative fund", &[0, 9, 10, 15]),
+        ],
     };
     kind.run(compare_hour);
 }

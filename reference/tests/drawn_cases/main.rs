@@ -15,6 +15,8 @@ mod ledger;
 mod lent;
 mod library;
 
+mod amounts;
+mod balances;
 mod calendar;
 mod call_lists;
 mod faulty_records;

@@ -8,7 +8,7 @@ use reference::book::Book;
 use reference::draws::Draws;
 use reference::rights::{records, Right};
 use reference::target::round;
-use reference::words::{self, Event, COUNTS, OUTCOME, SETTLED, SHORTFALLS, SURPLUSES};
+use reference::words::{self, Event, BALANCES, COUNTS, OUTCOME, SETTLED, SHORTFALLS};
 
 use crate::compare::{Case, Input, Kind};
 use crate::drawn::{draw_good_year, lend_book, number_of, old_line, old_lines};
@@ -204,7 +204,7 @@ fn settled_line(case: &mut Case, asked: &Asked, owner: u64) -> i64 {
     let mut book = Book::fresh(asked.year);
     book.hours = asked.hour;
     let draws = &mut case.draws;
-    let mut lent = lend_book(draws, &book, [COUNTS, SHORTFALLS, SURPLUSES]);
+    let mut lent = lend_book(draws, &book, [COUNTS, SHORTFALLS, BALANCES]);
     lent.lines = old_lines(draws, 64);
     lent.settled = Row::lent(&[], SETTLED, || old_line(draws));
     let event = Event::Hour(asked.market.hour(1_000_000));

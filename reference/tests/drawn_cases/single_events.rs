@@ -4,7 +4,7 @@ use reference::book::Book;
 use reference::draws::Draws;
 use reference::rights::records;
 use reference::target::owner_targets;
-use reference::words::{Event, COUNTS, SETTLED, SHORTFALLS, SURPLUSES};
+use reference::words::{Event, BALANCES, COUNTS, SETTLED, SHORTFALLS};
 
 use crate::compare::{Case, Kind};
 use crate::drawn::{
@@ -32,18 +32,20 @@ pub fn compare_event(case: &mut Case, event: Event, lent: &Lent) -> Given {
 }
 
 /// Notes whether an accepted event shared out a fund that is too small for its
-/// wants, which is where the split has work to do.
-fn note_shortage(case: &mut Case, event: Event, given: &Given) {
+/// wants, which is where the split has work to do, and whether it had wants beside a
+/// negative fund, which all carry.
+fn note_fund(case: &mut Case, event: Event, given: &Given) {
     if given.refusal != 0 {
         return;
     }
     let (fund, wants) = (given.lent.settled.cells[1], given.lent.settled.cells[2]);
-    let call = match event {
-        Event::Hour(_) => "hour that is short",
-        Event::MonthEnd => "month that is short",
-        Event::YearEnd => "year that is short",
+    let [short, carried] = match event {
+        Event::Hour(_) => ["hour that is short", "hour that carries all"],
+        Event::MonthEnd => ["month that is short", "month that carries all"],
+        Event::YearEnd => ["year that is short", "year that carries all"],
     };
-    case.came(call, u64::from(0 < fund && fund < wants));
+    case.came(short, u64::from(0 < fund && fund < wants));
+    case.came(carried, u64::from(fund < 0 && wants > 0));
 }
 
 /// Mostly 4 prices, and rights between their nodes.
@@ -64,39 +66,56 @@ fn draw_shape(draws: &mut Draws, book: &Book) -> Shape {
     }
 }
 
-/// The positive targets of the hour together; some number if it has none.
-pub fn wants_of(market: &Market, book: &Book) -> u64 {
+/// What the targets of the hour come to, those above 0 and those below; some numbers
+/// if it has none.
+fn wants_and_charges(market: &Market, book: &Book) -> [u64; 2] {
     let rights = records(market.rights.slice());
     let calendar = calendar_for(book.year);
     let hour = book.hours % calendar.hours();
     let targets = owner_targets(&rights, market.prices.slice(), calendar, hour);
-    let wants = targets.map(|target| u64::try_from(target).unwrap_or(0));
-    wants.iter().sum::<u64>().min(4_000_000_000_000)
+    let wants: i64 = targets.iter().map(|target| (*target).max(0)).sum();
+    let charges: i64 = targets.iter().map(|target| (-*target).max(0)).sum();
+    [wants, charges].map(|cents| cents.min(4_000_000_000_000) as u64)
 }
 
-/// An amount out of range, any, or around what is wanted and still may be carried.
-pub fn draw_collected(draws: &mut Draws, wants: u64, book: &Book) -> i64 {
+/// An amount at an end of its range or past it.
+fn draw_amount_at_an_end(draws: &mut Draws) -> i64 {
+    let any = draws.any() as i64;
+    match draws.below(6) {
+        0 | 1 => draws.one_of(&[-4_000_000_001, i64::MIN, any | i64::MIN]),
+        2 | 3 => draws.one_of(&[4_000_000_000_001, i64::MAX, any & i64::MAX]),
+        4 => -4_000_000_000,
+        _ => 4_000_000_000_000,
+    }
+}
+
+/// An amount in or out of its range, any, or such that F is around 0, or around what
+/// is wanted and still may be carried.
+pub fn draw_collected(draws: &mut Draws, market: &Market, book: &Book) -> i64 {
     let any = draws.any();
+    let below = |bound: u64| (any % bound) as i64;
+    let [wants, charges] = wants_and_charges(market, book);
     let carried = book.month_shortfalls.iter().chain(&book.year_shortfalls);
     let room = carried.fold(4_000_000_000, |room: u64, cell| room.saturating_sub(*cell));
-    let amount = match draws.below(32) {
-        0 => return draws.one_of(&[-1, i64::MIN, any as i64 | i64::MIN]),
-        1 => return draws.one_of(&[4_000_000_000_001, i64::MAX]),
-        2 => 4_000_000_000_000,
+    match draws.below(40) {
+        0..=2 => draw_amount_at_an_end(draws),
         3..=6 => 0,
-        7..=9 => any % 20,
-        10..=12 => any % 1_000_000,
-        13 | 14 => any % 4_000_000_000_001,
-        15..=20 => wants.saturating_sub(room) + 1 - any % 2,
-        21 => wants,
-        _ => any % (wants + 1),
-    };
-    amount as i64
+        7..=9 => below(20),
+        10..=12 => below(1_000_000),
+        13 | 14 => below(4_000_000_000_001),
+        15..=20 => wants.saturating_sub(room) as i64 + 1 - below(2),
+        21 => wants as i64,
+        22..=25 => 1 - below(3) - charges as i64,
+        26 => -below(20),
+        27 | 28 => -below(1_000_000),
+        29 | 30 => -below(4_000_000_001),
+        _ => below(wants + 1),
+    }
 }
 
 /// The words of a book: now and then of another number, or spoiled.
 fn draw_words(draws: &mut Draws, book: &Book) -> Lent {
-    let counts = [COUNTS, SHORTFALLS, SURPLUSES].map(|usual| number_of(draws, usual, 48));
+    let counts = [COUNTS, SHORTFALLS, BALANCES].map(|usual| number_of(draws, usual, 48));
     let mut lent = lend_book(draws, book, counts);
     spoil_words(draws, &mut lent, 32);
     lent
@@ -107,7 +126,7 @@ fn compare_book(case: &mut Case) {
     let book = draw_book(draws);
     let shape = draw_shape(draws, &book);
     let market = draw_market(draws, &shape);
-    let collected = draw_collected(draws, wants_of(&market, &book), &book);
+    let collected = draw_collected(draws, &market, &book);
     let hour = Event::Hour(market.hour(collected));
     for event in [hour, Event::MonthEnd, Event::YearEnd] {
         let draws = &mut case.draws;
@@ -117,7 +136,7 @@ fn compare_book(case: &mut Case) {
         lent.lines = old_lines(draws, line_count);
         lent.settled = Row::lent(&[], report_words, || old_line(draws));
         let given = compare_event(case, event, &lent);
-        note_shortage(case, event, &given);
+        note_fund(case, event, &given);
     }
 }
 
@@ -129,10 +148,13 @@ fn run(test: &'static str, base: u64) {
         refusals: &[
             ("hour", &[0, 1, 2, 3, 4, 5, 6, 7, 8, 9, 10, 15]),
             ("hour that is short", &[0, 1]),
+            ("hour that carries all", &[0, 1]),
             ("month end", &[0, 1, 2, 3, 4, 15]),
             ("month that is short", &[0, 1]),
+            ("month that carries all", &[0, 1]),
             ("year end", &[0, 1, 2, 3, 4, 15]),
             ("year that is short", &[0, 1]),
+            ("year that carries all", &[0, 1]),
         ],
     };
     kind.run(compare_book);

@@ -7,7 +7,7 @@ use reference::sentence::Stopped;
 use reference::step::HOUR_BYTES;
 use reference::target::MOST_PRICES;
 use reference::words::{self, CLOSED, CLOSING_ROOM, SENTENCE_ROOM, STEPPED, STEP_ROOM};
-use reference::words::{COUNTS, SHORTFALLS, SURPLUSES};
+use reference::words::{BALANCES, COUNTS, SHORTFALLS};
 
 use crate::compare::{Case, Input, Kind};
 use crate::drawn::{
@@ -16,7 +16,7 @@ use crate::drawn::{
 };
 use crate::lent::{Given, Lent, Row};
 use crate::library;
-use crate::single_events::{draw_collected, wants_of};
+use crate::single_events::draw_collected;
 
 /// What a step is lent to read.
 pub struct Block {
@@ -134,7 +134,7 @@ pub fn draw_block(draws: &mut Draws, book: &Book) -> Block {
         faults: 96,
     };
     let market = draw_market(draws, &shape);
-    let collected = draw_collected(draws, wants_of(&market, book), book);
+    let collected = draw_collected(draws, &market, book);
     let bytes = hour_bytes(collected, &market.prices.cells);
     let any = draws.below(2 * HOUR_BYTES as u64) as usize;
     let wrong = draws.one_of(&[0, 1, 7, 8, 9, 4_103, 4_105, 8_208, any]);
@@ -148,7 +148,7 @@ pub fn draw_block(draws: &mut Draws, book: &Book) -> Block {
 /// The words of a book and of a report: now and then of another number, or
 /// spoiled; and so many bytes of text.
 fn draw_words(draws: &mut Draws, book: &Book, report_words: usize, bytes: usize) -> Lent {
-    let counts = [COUNTS, SHORTFALLS, SURPLUSES].map(|usual| number_of(draws, usual, 64));
+    let counts = [COUNTS, SHORTFALLS, BALANCES].map(|usual| number_of(draws, usual, 64));
     let mut lent = lend_book(draws, book, counts);
     spoil_words(draws, &mut lent, 32);
     let report_words = number_of(draws, report_words, 64);
@@ -220,6 +220,18 @@ fn any_other_step() {
     run_steps("steps::any_other_step", 5_871_781_006_564_002_453);
 }
 
+/// Notes whether there was room, and how many balances an `F` line has below 0.
+fn note_closing(case: &mut Case, refusal: u8, given: &Given, end: u64) {
+    let [full, after] = [0, 1].map(|at| given.lent.report.cells[at]);
+    case.came("closing without room", full);
+    case.came("closing after a refusal", u64::from(refusal != 0));
+    if full == 0 && refusal == 0 {
+        let line = &given.lent.text.cells[end as usize..after as usize];
+        let signs = line.iter().filter(|byte| **byte == b'-').count();
+        case.came("minus signs in an F line", signs as u64);
+    }
+}
+
 #[test]
 fn any_closing() {
     let kind = Kind {
@@ -230,6 +242,7 @@ fn any_closing() {
             ("closing", &[0, 1, 4]),
             ("closing without room", &[0, 1]),
             ("closing after a refusal", &[0, 1]),
+            ("minus signs in an F line", &[0, 1, 2]),
         ],
     };
     kind.run(|case| {
@@ -239,13 +252,11 @@ fn any_closing() {
         let refusal = draws.one_of(&[0, any]);
         let (bytes, end) = draw_room(draws, CLOSING_ROOM);
         let mut lent = draw_words(draws, &book, CLOSED, bytes);
-        // Surpluses of all sizes, as no event would leave them.
+        // Balances of all sizes, as no event would leave them.
         spoil_words(draws, &mut lent, 4);
         let given = compare_closing(case, refusal, end, &lent);
         if given.refusal == 0 {
-            let full = given.lent.report.cells[0];
-            case.came("closing without room", full);
-            case.came("closing after a refusal", u64::from(refusal != 0));
+            note_closing(case, refusal, &given, end);
         }
     });
 }

@@ -3,7 +3,7 @@
 use reference::book::Book;
 use reference::calendar::day_of;
 use reference::draws::Draws;
-use reference::words::{counts_of, shortfalls_of};
+use reference::words::{balances_of, counts_of, shortfalls_of};
 
 use super::{calendar_for, draw_year};
 use crate::lent::{Lent, Row};
@@ -69,32 +69,63 @@ fn draw_shortfalls(draws: &mut Draws, book: &mut Book) {
     *cell = cell.wrapping_add(goal.wrapping_sub(total));
 }
 
-fn draw_surplus(draws: &mut Draws, shortfalls: u64) -> u64 {
+/// A balance around the shortfalls that it is to pay, or below 0.
+fn draw_balance(draws: &mut Draws, shortfalls: u64) -> i64 {
     let a = draws.any();
-    match draws.below(8) {
+    let below = |bound: u64| (a % bound) as i64;
+    match draws.below(12) {
         0 => 0,
-        1 => a % 1_000,
-        2 => shortfalls,
-        3 => shortfalls.wrapping_sub(1),
-        4 => shortfalls / 2,
-        5 => shortfalls.wrapping_add(a % 1_000),
-        6 => a % TOP,
-        _ => a % 4_000_000_000_000,
+        1 => below(1_000),
+        2 => shortfalls as i64,
+        3 => shortfalls.wrapping_sub(1) as i64,
+        4 => (shortfalls / 2) as i64,
+        5 => shortfalls.wrapping_add(a % 1_000) as i64,
+        6 => below(TOP),
+        7 => below(4_000_000_000_000),
+        8 => -1 - below(1_000),
+        9 => (shortfalls as i64).wrapping_neg(),
+        10 => -1 - below(TOP),
+        _ => -1 - below(100 * TOP),
     }
 }
 
-/// Surpluses around the shortfalls, in part with a sum at the limit.
-fn draw_surpluses(draws: &mut Draws, book: &mut Book) {
-    book.month_surplus = draw_surplus(draws, wrapping_sum(&book.month_shortfalls));
-    book.year_surplus = draw_surplus(draws, wrapping_sum(&book.year_shortfalls));
-    let hours = calendar_for(book.year).hours() + 1;
-    let most = (book.hours % hours) * 4_004_000_000_000;
-    match draws.below(24) {
-        0 => book.month_surplus = most.wrapping_sub(book.year_surplus),
-        1 => book.month_surplus = (most + 1).wrapping_sub(book.year_surplus),
-        2 => book.year_surplus = most.wrapping_sub(book.month_surplus),
-        _ => {}
+/// The bounds of 1 after so many hours: the least and the most.
+pub fn bounds_of(hours: u64) -> [i64; 2] {
+    [-4_000_000_000, 4_004_000_000_000].map(|per_hour| hours as i64 * per_hour)
+}
+
+/// Two balances, of which one or both together are this.
+pub fn draw_sum(draws: &mut Draws, sum: i64, [month, year]: [i64; 2]) -> [i64; 2] {
+    let part = draws.below(sum.unsigned_abs() + 1) as i64 * sum.signum();
+    match draws.below(5) {
+        0 => [sum, year],
+        1 => [month, sum],
+        2 => [sum.wrapping_sub(year), year],
+        3 => [month, sum.wrapping_sub(month)],
+        _ => [part, sum - part],
     }
+}
+
+/// Any two, in part such that their sum wraps in 64 bits.
+pub fn draw_any_balances(draws: &mut Draws) -> [i64; 2] {
+    let any = [(); 2].map(|()| draws.any() as i64);
+    let ends = [(); 2].map(|()| draws.one_of(&[i64::MIN, i64::MIN + 1, -1, 0, 1, i64::MAX]));
+    draws.one_of(&[any, ends, [any[0], ends[1]], [ends[0], any[1]]])
+}
+
+/// Balances around the shortfalls, in part at a bound of 1 or one past it, or any.
+fn draw_balances(draws: &mut Draws, book: &mut Book) {
+    let shortfalls = [&book.month_shortfalls, &book.year_shortfalls];
+    let balances = shortfalls.map(|cells| draw_balance(draws, wrapping_sum(cells)));
+    let hours = calendar_for(book.year).hours() + 1;
+    let bound = draws.one_of(&bounds_of(book.hours % hours));
+    let past = if draws.once_in(2) { 1 } else { -1 };
+    [book.month_balance, book.year_balance] = match draws.below(24) {
+        0 | 1 => draw_sum(draws, bound, balances),
+        2 => draw_sum(draws, bound + past, balances),
+        3 => draw_any_balances(draws),
+        _ => balances,
+    };
 }
 
 /// Once in five books one field is spoiled, or is what it is in a year of the other
@@ -123,7 +154,7 @@ pub fn draw_book(draws: &mut Draws) -> Book {
     let mut book = Book::fresh(draw_year(draws));
     draw_time(draws, &mut book);
     draw_shortfalls(draws, &mut book);
-    draw_surpluses(draws, &mut book);
+    draw_balances(draws, &mut book);
     spoil(draws, &mut book);
     book
 }
@@ -135,30 +166,27 @@ pub fn next_day(book: &Book) -> u64 {
 
 /// A book as words, with cells behind them.
 pub fn lend_book(draws: &mut Draws, book: &Book, counts: [usize; 3]) -> Lent {
-    let surpluses = [book.month_surplus, book.year_surplus].map(|cents| cents as i64);
-    let [count_words, shortfall_words, surplus_words] = counts;
+    let [count_words, shortfall_words, balance_words] = counts;
     Lent {
         counts: Row::lent(&counts_of(book), count_words, || draws.below(2)),
         shortfalls: Row::lent(&shortfalls_of(book), shortfall_words, || draws.below(9)),
-        surpluses: Row::lent(&surpluses, surplus_words, || draws.below(9) as i64),
+        balances: Row::lent(&balances_of(book), balance_words, || draws.any() as i64),
         ..Lent::default()
     }
 }
 
-/// Once in so many draws a mark that is neither 0 nor 1, and as often a surplus
-/// that is below 0 or any.
+/// Once in so many draws a mark that is neither 0 nor 1, and as often any balances.
 pub fn spoil_words(draws: &mut Draws, lent: &mut Lent, odds: u64) {
     let any = draws.any();
     let mark = draws.one_of(&[2, 3, 256, 1 << 32, u64::MAX, any]);
-    let surplus = draws.one_of(&[-1, -2, i64::MIN, any as i64]);
-    let at = draws.below(2) as usize;
-    let (spoil_mark, spoil_surplus) = (draws.once_in(odds), draws.once_in(odds));
+    let balances = draw_any_balances(draws);
+    let (spoil_mark, spoil_balances) = (draws.once_in(odds), draws.once_in(odds));
     let mark_cell = lent.counts.slice_mut().get_mut(2);
     if let Some(cell) = mark_cell.filter(|_| spoil_mark) {
         *cell = mark;
     }
-    let surplus_cell = lent.surpluses.slice_mut().get_mut(at);
-    if let Some(cell) = surplus_cell.filter(|_| spoil_surplus) {
-        *cell = surplus;
+    if spoil_balances {
+        let cells = lent.balances.slice_mut().iter_mut();
+        cells.zip(balances).for_each(|(cell, cents)| *cell = cents);
     }
 }

@@ -5,7 +5,7 @@
 
 use reference::book::Book;
 use reference::rights::LONGEST;
-use reference::words::{self, Event, COUNTS, SETTLED, SHORTFALLS, STEPPED, STEP_ROOM, SURPLUSES};
+use reference::words::{self, Event, BALANCES, COUNTS, SETTLED, SHORTFALLS, STEPPED, STEP_ROOM};
 
 use crate::calendar::{compare_calendar, compare_class, compare_days, lend_table};
 use crate::compare::{Case, Kind};
@@ -113,16 +113,17 @@ fn reads_and_steps_of_a_reader() {
     });
 }
 
-/// The hours settled, the months closed and the mark of a book, the year surplus and
+/// The hours settled, the months closed and the mark of a book, the year balance and
 /// the number of lines.
 type Words = ([u64; 3], i64, usize);
 
 /// What a month end gives, and a year end.
-const ENDS: [(Words, u64, u64); 10] = [
+const ENDS: [(Words, u64, u64); 11] = [
     (([720, 0, 0], 5, 64), 0, 3),
     (([720, 0, 0], 5, 63), 4, 3),
     (([719, 0, 0], 5, 64), 3, 3),
-    (([720, 0, 0], -1, 64), 1, 1),
+    (([720, 0, 0], -1, 64), 0, 3),
+    (([720, 0, 0], 720 * -4_000_000_000 - 1, 64), 1, 1),
     (([720, 0, 2], 5, 64), 1, 1),
     (([721, 0, 0], 5, 64), 1, 1),
     (([8_760, 12, 0], 5, 64), 3, 0),
@@ -133,11 +134,11 @@ const ENDS: [(Words, u64, u64); 10] = [
 
 /// Such a book of a year, and its lines.
 fn lend(case: &mut Case, year: u64, words: Words) -> Lent {
-    let ([hours, months, mark], surplus, lines) = words;
+    let ([hours, months, mark], balance, lines) = words;
     let draws = &mut case.draws;
-    let mut lent = lend_book(draws, &Book::fresh(year), [COUNTS, SHORTFALLS, SURPLUSES]);
+    let mut lent = lend_book(draws, &Book::fresh(year), [COUNTS, SHORTFALLS, BALANCES]);
     lent.counts.cells[..3].copy_from_slice(&[hours, months, mark]);
-    lent.surpluses.cells[1] = surplus;
+    lent.balances.cells[1] = balance;
     lent.lines = old_lines(draws, lines);
     lent.settled = Row::lent(&[], SETTLED, || old_line(draws));
     lent
@@ -166,9 +167,9 @@ fn month_ends_and_year_ends() {
     });
 }
 
-/// A step's mark and surplus, which come before the room, and the room, which comes
-/// before the hour: with a year outside 15 comes before all of them, with the end
-/// that was given and else zeros.
+/// A step's mark, which comes before the room, and the room, which comes before the
+/// hour and its balances: with a year outside 15 comes before all of them, with the
+/// end that was given and else zeros.
 #[test]
 fn steps_before_the_hour() {
     let kind = Kind {
@@ -183,7 +184,9 @@ fn steps_before_the_hour() {
         (good, STEP_ROOM - 1, 0),
         (([9, 0, 2], 0, 64), STEP_ROOM, 1),
         (([9, 0, 2], 0, 64), 0, 1),
-        (([9, 0, 0], -1, 64), STEP_ROOM, 1),
+        (([9, 0, 0], -1, 64), STEP_ROOM, 0),
+        (([9, 0, 0], 9 * -4_000_000_000 - 1, 64), STEP_ROOM, 1),
+        (([9, 0, 0], 9 * -4_000_000_000 - 1, 64), STEP_ROOM - 1, 0),
         (([721, 0, 0], 0, 64), STEP_ROOM, 1),
     ];
     kind.run(|case| {

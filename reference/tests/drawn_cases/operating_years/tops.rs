@@ -5,7 +5,7 @@
 use reference::book::{Book, HourInput};
 use reference::calendar::{FIRST_YEAR, LAST_YEAR};
 use reference::rights::{encode, Right};
-use reference::words::{self, Event, COUNTS, SETTLED, SHORTFALLS, SURPLUSES};
+use reference::words::{self, Event, BALANCES, COUNTS, SETTLED, SHORTFALLS};
 use reference::words::{OUTCOME, STEPPED, STEP_ROOM};
 
 use crate::calendar::{compare_calendar, compare_class};
@@ -106,7 +106,7 @@ fn book(year: u64, hours: u64, months: u64) -> Book {
 
 fn lend(case: &mut Case, book: &Book) -> Lent {
     let draws = &mut case.draws;
-    let mut lent = lend_book(draws, book, [COUNTS, SHORTFALLS, SURPLUSES]);
+    let mut lent = lend_book(draws, book, [COUNTS, SHORTFALLS, BALANCES]);
     lent.lines = old_lines(draws, 64);
     lent.settled = Row::lent(&[], SETTLED, || old_line(draws));
     lent

@@ -84,11 +84,14 @@ fn with_prices_and_amounts() -> Vec<Corner> {
             vec![amount(4_000_000_000_000)],
         ),
         ("amount one above", "R 6", vec![amount(4_000_000_000_001)]),
-        ("amount -1", "R 6", vec![amount(-1)]),
+        ("amount -1", "F", vec![amount(-1)]),
+        ("amount -4,000,000,000", "F", vec![amount(-4_000_000_000)]),
+        ("amount one below", "R 6", vec![amount(-4_000_000_001)]),
+        ("the lowest 64-bit amount", "R 6", vec![amount(i64::MIN)]),
         (
             "a wild price in the hour before",
             "R 5",
-            vec![amount(-1), before],
+            vec![amount(-4_000_000_001), before],
         ),
     ];
     let patched = |(name, last, patches): (&str, _, Vec<(usize, Vec<u8>)>)| {

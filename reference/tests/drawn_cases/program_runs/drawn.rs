@@ -12,13 +12,16 @@ struct Style {
     highest_price: u64,
     prices: usize,
     most_collected: u64,
+    /// An amount is the difference of two draws; if this is 1 it is not below 0.
+    most_negative: u64,
 }
 
 fn draw_block(draws: &mut Draws, style: &Style) -> Vec<u8> {
     let highest = style.highest_price;
     let price = |_| draws.below(2 * highest + 1) as i32 - highest as i32;
     let prices: Vec<i32> = (0..style.prices).map(price).collect();
-    block(draws.below(style.most_collected) as i64, &prices)
+    let [above, below] = [style.most_collected, style.most_negative].map(|most| draws.below(most));
+    block(above as i64 - below as i64, &prices)
 }
 
 /// A wild price or amount in one of the hours, or a cut at any byte.
@@ -30,7 +33,8 @@ fn put_trouble(draws: &mut Draws, hours: &mut Vec<u8>) {
     let any = draws.below(hours.len() as u64 + 1) as usize;
     let node = draws.one_of(&[0, 3, 1_023]);
     let price = draws.one_of(&[500_001, -500_001, i32::MAX, i32::MIN, 500_000, -500_000]);
-    let amount = draws.one_of(&[-1, i64::MIN, 4_000_000_000_001, i64::MAX, 4_000_000_000_000]);
+    let past = draws.one_of(&[-4_000_000_001, i64::MIN, 4_000_000_000_001, i64::MAX]);
+    let amount = draws.one_of(&[past, past, past, -4_000_000_000, 4_000_000_000_000]);
     let price_at = at + 8 + 4 * node;
     match draws.below(6) {
         0 => hours[price_at..price_at + 4].copy_from_slice(&price.to_le_bytes()),
@@ -52,6 +56,7 @@ fn draw_short_run(draws: &mut Draws) -> Run {
         highest_price: draws.one_of(&[10, 2_000, 500_000]),
         prices: nodes as usize,
         most_collected: draws.one_of(&[1, 1_000, 1_000_000, 4_000_000_000]),
+        most_negative: draws.one_of(&[1, 1, 1_000, 4_000_000_001]),
     };
     let count = draws.below(40);
     let mut hours = draw_hours(draws, count, &style);
@@ -76,6 +81,7 @@ fn draw_long_run(draws: &mut Draws) -> Run {
         highest_price: 2_000,
         prices: 2,
         most_collected: 100_000,
+        most_negative: draws.one_of(&[1, 50_000]),
     };
     let count = draws.one_of(&[719, 720, 721, 1_464]);
     let owners = 1 + draws.below(12);
@@ -93,6 +99,7 @@ fn draw_large_run(draws: &mut Draws) -> Run {
         highest_price: 500_000,
         prices: 2,
         most_collected: draws.one_of(&[1, 1_000_000_000]),
+        most_negative: draws.one_of(&[1, 1_000_000_000]),
     };
     let count = draws.below(12);
     Run {
@@ -109,7 +116,8 @@ pub fn draw_run(draws: &mut Draws) -> Run {
     }
 }
 
-/// A year of few rights, poor or rich, to the year end or an hour past it.
+/// A year of few rights, poor or rich, to the year end or an hour past it. No hour
+/// collects less than nothing.
 pub fn draw_year(draws: &mut Draws) -> Run {
     let seed = draws.any();
     let rights = 20 + draws.below(40);

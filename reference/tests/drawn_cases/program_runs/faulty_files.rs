@@ -64,7 +64,7 @@ fn a_wild_amount_over_a_faulty_file_names_no_record() {
     };
     kind.run(|case| {
         let mut run = faulty_run(9, &[4, 8]);
-        run.hours[..8].copy_from_slice(&(-1i64).to_le_bytes());
+        run.hours[..8].copy_from_slice(&(-4_000_000_001i64).to_le_bytes());
         let printed = compare_run(case, &run);
         assert_eq!(printed.errors, "Hour 0 is refused: 6, wild amount.\n");
         assert_eq!(printed.statement, "R 6\n");

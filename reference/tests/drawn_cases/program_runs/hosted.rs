@@ -9,7 +9,7 @@ use reference::program;
 use reference::rights::{encode, records, LONGEST};
 use reference::sentence::{Stopped, HOUR};
 use reference::step::{last_line, step, HOUR_BYTES};
-use reference::words::{CLOSED, COUNTS, SENTENCE_ROOM, SHORTFALLS, STEPPED, STEP_ROOM, SURPLUSES};
+use reference::words::{BALANCES, CLOSED, COUNTS, SENTENCE_ROOM, SHORTFALLS, STEPPED, STEP_ROOM};
 
 use super::drawn::{draw_run, draw_year};
 use super::run::{assert_same, year, Printed, Run};
@@ -32,7 +32,7 @@ impl Host {
         let mut lent = Lent {
             counts: old_words(draws, COUNTS),
             shortfalls: old_words(draws, SHORTFALLS),
-            surpluses: old_lines(draws, SURPLUSES),
+            balances: old_lines(draws, BALANCES),
             text: old_text(draws, STEP_ROOM + more),
             ..Lent::default()
         };
@@ -131,7 +131,7 @@ fn hosted(case: &mut Case, year: u64, rights: Option<&[u8]>, hours: &[u8]) -> Pr
     }
 }
 
-fn compare_hosted(case: &mut Case, run: &Run) {
+pub fn compare_hosted(case: &mut Case, run: &Run) {
     let rights = run.rights.as_deref().filter(|file| file.len() <= LONGEST);
     let hosted = hosted(case, PROGRAM_YEAR, rights, &run.hours);
     let mut statement = Vec::new();

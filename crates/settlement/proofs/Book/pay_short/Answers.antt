@@ -1,6 +1,7 @@
 -- Refused by the rows of every event, or the month or the year is paid and closed.
-use Rattle.std.proofs.Common.{ℕ, List, ◌≡◌, rules, refl, sym, ap, ap₂, ◌∙◌, arith}
+use Rattle.std.proofs.Common.{ℕ, ℤ, List, w64, FitsSigned, to_z, of_z, ◌≡◌, rules, refl, sym, ap, ap₂, ◌∙◌, arith}
 use Rattle.std.proofs.lemmas.Grind.{common_steps}
+use Rattle.std.proofs.lemmas.Int.{to_z-of_z}
 use Rattle.std.proofs.lemmas.Result.{err_from_is_err_and}
 use Rattle.settlement.specs.declared.payment.Paid.{Paid}
 use Rattle.settlement.specs.Ends.{end_call}
@@ -12,9 +13,11 @@ use Rattle.settlement.proofs.Refusing.{refused_answer, accepted_answer}
 use Rattle.settlement.proofs.Book.pay_short.Goals as goal
 use Rattle.settlement.proofs.Book.pay_short.Goals.{in-Month, in-Year, in-Month-end, in-Year-end}
 
--- what the chosen fund pays of the chosen wants
-paid_for : {chosen given : ℕ × List ℕ} → chosen ≡ given → paid_from chosen.0 chosen.1 ≡ paid_from given.0 given.1
-paid_for same = ap (λ (f : ℕ × List ℕ). paid_from f.0 f.1) same
+-- what the chosen fund pays of the chosen wants, where it is read back from its bits
+paid_for : (chosen : ℤ × List ℕ) {given : ℤ × List ℕ} → FitsSigned w64 chosen.0 → chosen ≡ given
+    → paid_from (to_z w64 (of_z w64 chosen.0)) chosen.1 ≡ paid_from given.0 given.1
+paid_for chosen fits same =
+    ap (λ (z : ℤ). paid_from z chosen.1) (to_z-of_z w64 chosen.0 fits) ∙ ap (λ (f : ℤ × List ℕ). paid_from f.0 f.1) same
 
 pub returns-in_err-of_event : goal.returns-in_err-of_event
 returns-in_err-of_event c =
@@ -40,13 +43,17 @@ copy_from_slice-requires c =
 
 pub added-cells-requires : goal.added-cells-requires
 added-cells-requires c =
+    let back = to_z-of_z w64 c.args.self.now.monthbalance (search rules) in
     cells_fit (passed c.args.end _ _ c.into.ensures c.of_event.ensures c.in_ok-of_event.was)
-    (c.pay-paid.ensures ∙ paid_for (grind (arith, common_steps))) (search rules)
+    (c.pay-paid.ensures ∙ paid_for c.match-end.fund (search rules) (grind (arith, common_steps, back))) (search rules)
 
 pub after_month-requires : goal.after_month-requires
 after_month-requires c =
-    month_fits (passed c.args.end _ _ c.into.ensures c.of_event.ensures c.in_ok-of_event.was)
-    (c.pay-paid.ensures ∙ paid_for (grind (arith, common_steps)))
+    let back = to_z-of_z w64 c.args.self.now.monthbalance (search rules) in
+    let fits =
+    month_fits (passed c.args.end _ _ c.into.ensures c.of_event.ensures c.in_ok-of_event.was) {paid = c.pay-paid.result}
+    (c.pay-paid.ensures ∙ paid_for c.match-end.fund (search rules) (grind (arith, common_steps, back))) in
+    (fits.0, rw (to_z-of_z w64 c.pay-paid.result.left (search rules)) fits.1)
 
 pub returns : goal.returns
 unfolding fund demand wants book_after
@@ -54,13 +61,18 @@ returns c =
     let b = c.args.self.now in
     let pass = passed c.args.end _ _ c.into.ensures c.of_event.ensures c.in_ok-of_event.was in
     let taken : c.match-end.fund ≡ (fund (end_call c.args.end) b, wants (end_call c.args.end) b) =
-    elim c.match-end.branch [ in-Month w ↦ rw w.in-Month.is w.fund-is | in-Year w ↦ rw w.in-Year.is w.fund-is ] in
-    let paid = c.pay-paid.ensures ∙ paid_for taken in
+    elim c.match-end.branch [
+      | in-Month w ↦ rw w.in-Month.is (w.fund-is ∙ ap (λ (z : ℤ). (z, b.monthshort)) (to_z-of_z w64 b.monthbalance (search rules)))
+      | in-Year w ↦ rw w.in-Year.is (w.fund-is ∙ ap (λ (z : ℤ). (z, b.yearshort)) (to_z-of_z w64 b.yearbalance (search rules)))
+    ] in
+    let paid = c.pay-paid.ensures ∙ paid_for c.match-end.fund (search rules) taken in
+    let left = to_z-of_z w64 c.pay-paid.result.left (search rules) ∙ ap (λ (x : Paid). x.left) paid in
     accepted_answer (end_call c.args.end) b c.args.lines.now _ _ _ pass.accepted (ap (λ (x : Paid). x.funding) paid)
     (elim c.match-end-2.branch [
       | in-Month-end w ↦ w.self-is ∙ w.after_month.ensures
-          ∙ ap₂ (λ (ys : List ℕ) (rest : ℕ). book_after_month b ys rest) (w.added-cells.ensures ∙ ap (λ (x : Paid). added_to b.yearshort x.unpaid) paid) (ap (λ (x : Paid). x.left) paid)
+          ∙ ap₂ (book_after_month b) (w.added-cells.ensures ∙ ap (λ (x : Paid). added_to b.yearshort x.unpaid) paid) left
           ∙ rw w.in-Month-end.is refl
-      | in-Year-end w ↦ w.self-is ∙ w.after_year.ensures ∙ ap (λ (x : Paid). book_after_year b x.unpaid x.left) paid ∙ rw w.in-Year-end.is refl
+      | in-Year-end w ↦ w.self-is ∙ w.after_year.ensures
+          ∙ ap₂ (book_after_year b) (ap (λ (x : Paid). x.unpaid) paid) left ∙ rw w.in-Year-end.is refl
     ])
     (c.copy_from_slice.ensures.after ∙ c.of_payments.ensures ∙ ap (λ (x : Paid). payment_lines x.payments) paid ∙ end_lines c.args.end b)

@@ -1,20 +1,14 @@
--- The split is never refused here; what it then promises is the one theorem on accepted calls.
-use Rattle.std.proofs.Common.{rules, refl, ◌∙◌, arith}
-use Rattle.split.proofs.Answers.{leaves, accepted_call}
-use Rattle.settlement.specs.Events.{hall}
-use Rattle.settlement.proofs.Paying.{not_refused, put_together}
+-- What is paid and what is left are the payout; the rest is put together.
+use Rattle.std.proofs.Common.{w64, rules, ◌∙◌, arith}
+use Rattle.std.proofs.lemmas.Int.{to_z-of_z}
+use Rattle.settlement.proofs.Paying.{put_together}
+use Rattle.settlement.proofs.Payouts.{payout_at_most}
 use Rattle.settlement.proofs.payment.pay.Goals as goal
 
-pub unwrap-left-requires : goal.unwrap-left-requires
-unwrap-left-requires c =
-    let taken = not_refused c.args.wants.now (search rules) c.requires in
-    rw (c.split.ensures.value ∙ leaves hall _ _ _ taken) refl
-
 pub unpaid_of-unpaid-requires : goal.unpaid_of-unpaid-requires
-unpaid_of-unpaid-requires c =
-    (accepted_call hall _ _ _ c.split.ensures.value c.split.ensures.payments_after c.unwrap-left.ensures).at_most
+unpaid_of-unpaid-requires c = λ i. rw c.pay_out-left.ensures.payments_after (payout_at_most _ _ i)
 
 pub returns : goal.returns
 returns c =
-    let shared = accepted_call hall _ _ _ c.split.ensures.value c.split.ensures.payments_after c.unwrap-left.ensures in
-    put_together _ _ _ _ _ _ (omega arith) shared.gives shared.pays c.unpaid_of-unpaid.ensures
+    put_together c.args.wants.now (to_z-of_z w64 _ c.ranges.fund) (omega arith) (to_z-of_z w64 _ (search rules) ∙ c.pay_out-left.ensures.value)
+    c.pay_out-left.ensures.payments_after c.unpaid_of-unpaid.ensures

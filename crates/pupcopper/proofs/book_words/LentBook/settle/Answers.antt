@@ -20,7 +20,7 @@ give_back-requires-clause-amounts_fit g c =
 pub returns-in-Ok-clause-settles : goal.returns-in-Ok-clause-settles
 returns-in-Ok-clause-settles g c =
     let words = words_lent c.args.self.now in
-    let given = given_book true settled_words words _ c.words.ensures c.in-Ok.ensures.value in
+    let given = given_book true settled_words words _ c.words.ensures c.in-Ok.ensures in
     let answered : Answered g.call (book_from words) c.args.lines.now (in_numbers c.event-settled.result) c.event-settled.new.arg3 = search rules in
     settled_event g.call words c.args.report.now c.args.lines.now _ _ answered _ _ _ given.0
     c.give_back.ensures.value
@@ -30,5 +30,5 @@ returns-in-Ok-clause-settles g c =
 pub returns-in-Err-clause-settles : goal.returns-in-Err-clause-settles
 returns-in-Err-clause-settles g c =
     let words = words_lent c.args.self.now in
-    let refused = refused_number true settled_words words _ c.words.ensures c.in-Err.ensures.value in
+    let refused = refused_number true settled_words words _ c.words.ensures c.in-Err.ensures in
     rw c.number.ensures (refused_event g.call words c.args.report.now c.args.lines.now _ _ refused.0 (number_some _) c.write.ensures)
