@@ -132,6 +132,10 @@ uint8_t pupcopper_split(size_t owners, uint64_t total, uint64_t fund, const uint
    report of another number of words; then 1, a spoiled book, for a mark that is neither 0 nor 1; then what the call itself refuses,
    lowest first.
 
+   The 128 shortfalls are the book's own cells, laid out by owner: an owner's two stand side by side, in the places named above, and
+   their sum is its open shortfall. A call takes them and gives them back in these places, so that a host can look up an owner between
+   any two calls.
+
    Any two balances are those of a book. An event, and the hour of a step, refuse it with 1 unless each balance, and the two together,
    lie between the hours settled times -4,000,000,000 and the hours settled times 4,004,000,000,000. */
 

@@ -17,7 +17,9 @@ pub mod split;
 pub mod step;
 pub mod target;
 
-// What a host lends and gets, in words, from `host/pupcopper.h`.
+// What a host lends and gets, in words, from `host/pupcopper.h`, with the shortfalls
+// laid out as Wish 11 has them.
+pub mod by_owner;
 pub mod words;
 
 // Drawn numbers, and years for whole runs of the program.

@@ -2,6 +2,7 @@
 //! for each call. The phrases are those of `host/pupcopper.h`.
 
 use crate::book::{Book, EventResult, HourInput};
+use crate::by_owner::{laid_out, read_off, CELLS};
 use crate::calendar::{calendar_of, day_table, place};
 use crate::refusal::{first, ACCEPTED, NO_SUCH_YEAR, SPOILED_BOOK, WRONG_LENGTH};
 use crate::rights::{self, Given, Reader, Right};
@@ -14,7 +15,7 @@ use crate::target::{self, Asked};
 /// year".
 pub const COUNTS: usize = 4;
 /// "owner i's month shortfall at 2 * i, its year shortfall at 2 * i + 1".
-pub const SHORTFALLS: usize = 128;
+pub const SHORTFALLS: usize = CELLS;
 /// "words of a book: the month balance, the year balance; either sign".
 pub const BALANCES: usize = 2;
 /// "words of an event's report: the record number of 7 and 8, F (the fund, of either
@@ -94,10 +95,7 @@ pub fn counts_of(book: &Book) -> [u64; COUNTS] {
 }
 
 pub fn shortfalls_of(book: &Book) -> [u64; SHORTFALLS] {
-    std::array::from_fn(|at| match at % 2 {
-        0 => book.month_shortfalls[at / 2],
-        _ => book.year_shortfalls[at / 2],
-    })
+    laid_out(&book.month_shortfalls, &book.year_shortfalls)
 }
 
 pub fn balances_of(book: &Book) -> [i64; BALANCES] {
@@ -136,13 +134,14 @@ impl BookWords<'_> {
     /// The book that the words stand for, which are not spoiled: "Any two balances are
     /// those of a book".
     fn book(&self) -> Book {
+        let [month_shortfalls, year_shortfalls] = read_off(self.shortfalls);
         Book {
             hours: self.counts[0],
             months: self.counts[1],
             ended: self.counts[2] == 1,
             year: self.counts[3],
-            month_shortfalls: std::array::from_fn(|owner| self.shortfalls[2 * owner]),
-            year_shortfalls: std::array::from_fn(|owner| self.shortfalls[2 * owner + 1]),
+            month_shortfalls,
+            year_shortfalls,
             month_balance: self.balances[0],
             year_balance: self.balances[1],
         }

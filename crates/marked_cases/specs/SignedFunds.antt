@@ -5,8 +5,7 @@ use Rattle.std.specs.Prelude.{ℕ, ◌≡◌, refl, true, false, List, [], ◌�
 use Rattle.numbers.specs.Lists.{total, list_below}
 use Rattle.calendar.specs.Almanac.{first_year, days_of_months, days_in_year}
 use Rattle.calendar.specs.Year.{ends_from, month_ends}
-use Rattle.settlement.specs.declared.Book.{Book}
-use Rattle.settlement.specs.Book.{out_of_step, is_out_of_bounds, is_spoiled}
+use Rattle.settlement.specs.Book.{Book, out_of_step, is_out_of_bounds, is_spoiled}
 use Rattle.settlement.specs.Events.{payout, month_end_call, year_end_call, wants, fund, unpaid_of, added_to, book_after, is_wild_amount}
 
 -- "Collected may run from -4,000,000,000 up to the old top, and 6 moves with it": at each limit, and one cent past it

@@ -1,7 +1,7 @@
 -- An event over the words of a book: refused by its words, or the event of the book that they stand for.
 -- Assumes nothing.
 use Prim.Native.Nat.{ℕ, ◌^◌, ◌<◌, ◌≤◌}
-use mathlib.Core.Path.{◌≡◌, refl, sym, ap, ◌∙◌}
+use mathlib.Core.Path.{◌≡◌, sym, ap, ◌∙◌}
 use mathlib.Core.Bool.{cond}
 use mathlib.Core.List.{List}
 use native.Mathlib.Decide.{ℕ_discrete}
@@ -10,27 +10,18 @@ use lib.ListN.{length}
 use lib.IntN.{ℤ}
 use Rattle.numbers.specs.Refusals.{answer_by}
 use Rattle.numbers.proofs.Refusals.{answer_accepted, answer_refused}
-use Rattle.std.specs.Prelude.{pos, Result, Ok, Err}
-use Rattle.numbers.specs.declared.refusal.Refusal.{Refusal}
-use Rattle.settlement.specs.declared.Book.{Book}
-use Rattle.settlement.specs.declared.Funding.{Funding}
-use Rattle.settlement.specs.declared.Settled.{Settled as Handed}
-use Rattle.settlement.specs.Events.{hour_call, month_end_call, year_end_call, Settled, in_numbers, result_of, Call, fund, demand, book_after, lines, refusal, record_of, Answered}
+use Rattle.std.specs.Prelude.{pos}
+use Rattle.settlement.specs.declared.Book.{Book as ByOwner}
+use Rattle.settlement.specs.Book.{Book}
+use Rattle.settlement.specs.ByOwner.{laid_out}
+use Rattle.settlement.specs.Events.{hour_call, month_end_call, year_end_call, Settled, settled, Call, fund, demand, book_after, lines, refusal, record_of, Answered}
 use Rattle.settlement.proofs.Amounts.{demand_small, record_within}
-use Rattle.settlement.proofs.Refusing.{record_other, gives_number, gives_record, gives_fund, gives_demand, gives_book_lem}
-use Rattle.pupcopper.specs.BookWords.{BookWords, words_of, book_from, year_in}
+use Rattle.settlement.proofs.Refusing.{record_other, gives_number, gives_record, gives_fund, gives_demand}
+use Rattle.pupcopper.specs.BookWords.{BookWords, words_of, kept_from, book_from, year_in}
 use Rattle.pupcopper.specs.Calls.{is_wrong_report, settled_report, settled_words, words_refusal, event_refusal, Settles}
 use Rattle.pupcopper.specs.InnerContracts.{bytes_lent, ResultFits}
 use Rattle.pupcopper.proofs.WordRows.{words_not_7, words_not_8}
 use mathlib.Core.Bool.{true}
-
--- the book of a result is the one that is handed back
-pub book_is : (settled : Handed) → (in_numbers settled).book ≡ settled.book
-book_is settled = by_outcome settled.outcome
-  where
-    by_outcome : (outcome : Result Funding Refusal) → (result_of outcome settled.book).book ≡ settled.book
-    by_outcome (Ok funding) = refl
-    by_outcome (Err why) = refl
 
 -- the record that a call names is one of its rights
 record_lent : (call : Call) (year number : ℕ) → record_of call year number ≤ bytes_lent call
@@ -83,9 +74,6 @@ module _ (call : Call) (words : BookWords) (report lent : List ℤ) where
         (arith, demand_small call book (length lent) z, gives_demand answered ∙ answer_accepted own_number (demand call book) 0 z)
     demand_fits (no some) = omega (arith, gives_demand answered ∙ answer_refused own_number (demand call book) 0 some)
 
-    book_after_lem : own_number ≡ 0 → result.book ≡ book_after call book
-    book_after_lem z = gives_book_lem answered ∙ answer_accepted own_number (book_after call book) book z
-
     pub result_fits : bytes_lent call < 2 ^ 63 → ResultFits result
     result_fits few =
         record {
@@ -93,12 +81,13 @@ module _ (call : Call) (words : BookWords) (report lent : List ℤ) where
           wanted = demand_fits (ℕ_discrete own_number 0);
         }
 
-    pub settled_event : (number : ℕ) (words_after : BookWords) (report_after : List ℤ) → own ≡ 0 → number ≡ result.refusal
+    pub settled_event : (next : ByOwner) → next ≡ laid_out (settled call book (length lent)).book
+        → (number : ℕ) (words_after : BookWords) (report_after : List ℤ) → own ≡ 0 → number ≡ result.refusal
         → report_after ≡ cond (is_wrong_report settled_words (length report)) report (settled_report result.faulty result.fund result.demand)
-        → words_after ≡ answer_by number (words_of result.book) words
+        → words_after ≡ answer_by number (words_of next) words
         → Settles call words report lent number words_after report_after lines_after
-    unfolding event_refusal book_from
-    settled_event number words_after report_after clear is written kept =
+    unfolding event_refusal kept_from
+    settled_event next laid number words_after report_after clear is written kept =
         record {
           number = same ∙ sym (answer_accepted own own_number own clear);
           reports =
@@ -115,6 +104,10 @@ module _ (call : Call) (words : BookWords) (report lent : List ℤ) where
         by_number : {A : Type 0} (accepted refused : A) → answer_by own_number accepted refused ≡ answer_by number accepted refused
         by_number accepted refused = ap (λ (n : ℕ). answer_by n accepted refused) (sym same)
 
-        words_of_lem : Dec (number ≡ 0) → answer_by number (words_of result.book) words ≡ answer_by number (words_of (book_after call book)) words
-        words_of_lem (yes z) = ap (λ (b : Book). answer_by number (words_of b) words) (book_after_lem (sym same ∙ z))
+        next_is : own_number ≡ 0 → next ≡ laid_out (book_after call book)
+        next_is z = laid ∙ ap laid_out (answer_accepted own_number (book_after call book) book z)
+
+        words_of_lem : Dec (number ≡ 0)
+            → answer_by number (words_of next) words ≡ answer_by number (words_of (laid_out (book_after call book))) words
+        words_of_lem (yes z) = ap (λ (b : ByOwner). answer_by number (words_of b) words) (next_is (sym same ∙ z))
         words_of_lem (no some) = answer_refused number _ words some ∙ sym (answer_refused number _ words some)

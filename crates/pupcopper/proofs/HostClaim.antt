@@ -10,12 +10,11 @@ use lib.Dec.{ltb}
 use lib.ListN.{length}
 use lib.IntN.{ℤ, pos}
 use Rattle.numbers.specs.Signs.{positive}
-use Rattle.numbers.specs.Limits.{owners}
 use Rattle.numbers.specs.Refusals.{answer_by}
-use Rattle.numbers.proofs.Counts.{length_list_below}
 use Rattle.numbers.proofs.Refusals.{answer_accepted, answer_refused}
-use Rattle.settlement.specs.declared.Book.{Book}
-use Rattle.settlement.specs.Book.{fresh}
+use Rattle.settlement.specs.Book.{Book, fresh}
+use Rattle.settlement.specs.ByOwner.{laid_out}
+use Rattle.settlement.proofs.ByOwner.{laid_long, read_long}
 use Rattle.settlement.specs.Events.{Call, fund, demand, book_after, lines, refusal, record_of, Answered}
 use Rattle.settlement.specs.Ledger.{asked, book_at, ledger_of, IsLedger}
 use Rattle.settlement.specs.Claim.{Claim}
@@ -25,8 +24,7 @@ use Rattle.calendar.specs.Almanac.{is_outside}
 use Rattle.settlement.proofs.OneLedger.{book_at_start, book_at_entry, only_ledger}
 use Rattle.settlement.proofs.Kept.{kept_fresh}
 use Rattle.settlement.proofs.SameCells.{long_after}
-use Rattle.settlement.proofs.Shares.{IsLong}
-use Rattle.pupcopper.specs.BookWords.{BookWords, year_in, shortfall_words, counts_of, by_owner, balances_of, words_of, cells_from, book_from, is_no_book, is_wrong_count, is_wrong_mark}
+use Rattle.pupcopper.specs.BookWords.{BookWords, year_in, counts_of, balances_of, words_of, kept_from, book_from, is_no_book, is_wrong_count, is_wrong_mark}
 use Rattle.pupcopper.specs.Calls.{number_of, is_wrong_report, settled_words, settled_report, event_refusal, words_opened, Settles}
 use Rattle.pupcopper.specs.HostLedger.{HostEntry, words_at, IsHostList, word_in, entry_of, host_ledger}
 use Rattle.pupcopper.proofs.BothWays.{book_back}
@@ -38,22 +36,17 @@ record Good (words : BookWords) : Type 0 where
   pub marked : is_wrong_mark words ≡ false
 
 -- those of any book are
-words_good : (book : Book) → Good (words_of book)
-unfolding counts_of by_owner balances_of
+words_good : (book : Book) → Good (words_of (laid_out book))
+unfolding counts_of balances_of
 words_good book =
     record {
-      counted = ap (λ (cells : ℕ). is_no_book 4 cells 2) (length_list_below _ shortfall_words);
+      counted = ap (λ (cells : ℕ). is_no_book 4 cells 2) (laid_long book.monthshort book.yearshort);
       marked = by_mark book.ended;
     }
   where
     by_mark : (ended : Bool) → ltb 1 (cond ended 1 0) ≡ false
     by_mark true = refl
     by_mark false = refl
-
--- the book that is read has a cell for each owner
-long_read : (words : BookWords) → IsLong (book_from words)
-unfolding book_from cells_from
-long_read words = record { month = length_list_below _ owners; year = length_list_below _ owners }
 
 -- ---- one call
 
@@ -75,7 +68,7 @@ module _ (entry : HostEntry) (words : BookWords) (good : Good words)
     unchanged within wrong =
         let own = wrong_report true settled_words words (length entry.report) (dated_words words good.counted) within good.counted wrong in
         let is_4 = settles.number ∙ ap (λ (n : ℕ). number_of n (refusal call book (length entry.lent))) (sym own) in
-        settles.gives_book ∙ answer_refused number (words_of (book_after call book)) words (λ z. omega (arith, is_4, z))
+        settles.gives_book ∙ answer_refused number (words_of (laid_out (book_after call book))) words (λ z. omega (arith, is_4, z))
 
     module _ (within : is_outside (year_in words) ≡ false) (fits : is_wrong_report settled_words (length entry.report) ≡ false) where
       number_is : number ≡ refusal call book (length entry.lent)
@@ -93,12 +86,11 @@ module _ (entry : HostEntry) (words : BookWords) (good : Good words)
         where
           by_test : Dec (number ≡ 0) → book_from entry.words ≡ answer_by number (book_after call book) book
           by_test (yes z) =
-              let after = long_after call book (long_read words) in
-              ap book_from (settles.gives_book ∙ answer_accepted number (words_of (book_after call book)) words z)
-              ∙ book_back (book_after call book) after.month after.year
+              ap book_from (settles.gives_book ∙ answer_accepted number (words_of (laid_out (book_after call book))) words z)
+              ∙ book_back (book_after call book) (long_after call book (read_long (kept_from words)))
               ∙ sym (answer_accepted number (book_after call book) book z)
           by_test (no some) =
-              ap book_from (settles.gives_book ∙ answer_refused number (words_of (book_after call book)) words some)
+              ap book_from (settles.gives_book ∙ answer_refused number (words_of (laid_out (book_after call book))) words some)
               ∙ sym (answer_refused number (book_after call book) book some)
 
       -- the report's three words
@@ -114,7 +106,7 @@ module _ (entry : HostEntry) (words : BookWords) (good : Good words)
 
       -- the call is an entry on the book that the words stand for
       is_entry : Answered call book entry.lent (entry_of entry).result entry.written
-      unfolding book_from
+      unfolding kept_from
       is_entry =
           record {
             gives =
@@ -136,10 +128,10 @@ module _ (entry : HostEntry) (words : BookWords) (good : Good words)
         by_test : Dec (number ≡ 0) → Good entry.words
         by_test (yes z) =
             subst (λ (w : BookWords). Good w)
-            (sym (settles.gives_book ∙ answer_accepted number (words_of (book_after call book)) words z)) (words_good (book_after call book))
+            (sym (settles.gives_book ∙ answer_accepted number (words_of (laid_out (book_after call book))) words z)) (words_good (book_after call book))
         by_test (no some) =
             subst (λ (w : BookWords). Good w)
-            (sym (settles.gives_book ∙ answer_refused number (words_of (book_after call book)) words some)) good
+            (sym (settles.gives_book ∙ answer_refused number (words_of (laid_out (book_after call book))) words some)) good
 
 -- ---- the whole list
 
@@ -152,7 +144,7 @@ module _ (year : ℕ) (in_range : is_outside year ≡ false) where
 
   -- the words have the year of the list
   within : (list : List HostEntry) → HostKept list → is_outside (year_in (words_at year list)) ≡ false
-  unfolding book_from
+  unfolding kept_from
   within list kept =
       let is = sym (ap (λ (b : Book). b.year) kept.same) ∙ (kept_all year in_range (host_ledger list) kept.ledger).same_year in
       ap is_outside is ∙ in_range
@@ -189,7 +181,7 @@ module _ (year : ℕ) (in_range : is_outside year ≡ false) where
       let start = (kept_fresh year in_range).long in
       record {
         sound = words_good (fresh year);
-        same = book_at_start year ∙ sym (book_back (fresh year) start.month start.year);
+        same = book_at_start year ∙ sym (book_back (fresh year) start);
         ledger = tt;
       }
   host_kept (entry ∷ past) settled = host_next entry past (host_kept past settled.1) settled.0
@@ -208,4 +200,4 @@ module _ (year : ℕ) (in_range : is_outside year ≡ false) where
   -- an accepted opening leaves the words that such a list begins with
   pub opened_words : (words : BookWords) → is_wrong_count words ≡ false → words_opened year words ≡ words_at year []
   unfolding words_at
-  opened_words words right = sym (opened_written year words right) ∙ ap words_of (opened_fresh year in_range)
+  opened_words words right = sym (opened_written year words right) ∙ ap (λ (b : Book). words_of (laid_out b)) (opened_fresh year in_range)

@@ -1,5 +1,4 @@
 pub mod BothWays
-pub mod Cells
 pub mod Class
 pub mod EventWords
 pub mod HostClaim

@@ -15,24 +15,25 @@ use Rattle.numbers.specs.declared.refusal.Refusal.{Refusal}
 use Rattle.numbers.specs.Refusals.{Row, ◌if◌, first_refusal, answered, number_in, refusal_of}
 use Rattle.numbers.proofs.Booleans.{both_true}
 use Rattle.numbers.proofs.Refusals.{refusal_none, refusal_here, refusal_next, refusal_clear, refusal_never, answered_err, answered_ok, number_back, number_answered, IsNumber, is_number}
-use Rattle.settlement.specs.declared.Book.{Book}
-use Rattle.pupcopper.specs.BookWords.{BookWords, words_of, book_from, year_in, has_no_year, count_words, shortfall_words, balance_words, is_wrong_count, is_wrong_mark}
+use Rattle.pupcopper.specs.BookWords.{BookWords, words_of, kept_from, year_in, has_no_year, count_words, balance_words, is_wrong_count, is_wrong_mark}
 use Rattle.pupcopper.specs.Calls.{is_wrong_report, words_refusal, open_refusal, words_opened}
 use Rattle.pupcopper.proofs.ReportWords.{report_fits, report_wrong}
 use Rattle.calendar.specs.Almanac.{is_outside}
+use Rattle.settlement.specs.declared.Book.{Book as ByOwner}
 use Rattle.settlement.specs.Book.{year_refusal, opened}
+use Rattle.settlement.specs.ByOwner.{cell_count, laid_out}
 use Rattle.settlement.proofs.Opening.{opening_accepted, opening_refused, opening_number}
 
 -- so many words are a book's
 pub record Long (words : BookWords) : Type 0 where
   pub counts : length words.counts ≡ count_words
-  pub shortfalls : length words.shortfalls ≡ shortfall_words
+  pub shortfalls : length words.shortfalls ≡ cell_count
   pub balances : length words.balances ≡ balance_words
 
 pub long : (words : BookWords) → is_wrong_count words ≡ false → Long words
 long words right =
     let counted = eqb (length words.counts) count_words in
-    let celled = eqb (length words.shortfalls) shortfall_words in
+    let celled = eqb (length words.shortfalls) cell_count in
     let summed = eqb (length words.balances) balance_words in
     let all = both_true (counted && celled) summed (not-false (counted && celled && summed) right) in
     let two = both_true counted celled all.0 in
@@ -64,7 +65,7 @@ module _ (year : ℕ) (words : BookWords) where
   pub opened_kept : is_wrong_count words ≡ true → words ≡ words_opened year words
   opened_kept wrong = rw wrong
 
-  pub opened_written : is_wrong_count words ≡ false → words_of (opened year) ≡ words_opened year words
+  pub opened_written : is_wrong_count words ≡ false → words_of (laid_out (opened year)) ≡ words_opened year words
   opened_written right = rw right
 
 pub ruleset open_laws = (open_wrong, open_right, opened_kept, opened_written, number_answered, opening_number)
@@ -142,16 +143,16 @@ module _ (dated : Bool) (places : ℕ) (words : BookWords) (report : ℕ) {read 
   abbrev table : ℕ
   table = words_refusal dated places words report
 
-  told : {outcome : Result Book Refusal} → outcome ≡ answered (words_refusal dated places read report) 0 (book_from read)
-      → outcome ≡ answered table 0 (book_from words)
-  told {outcome} is = subst (λ (w : BookWords). outcome ≡ answered (words_refusal dated places w report) 0 (book_from w)) same is
+  told : {outcome : Result ByOwner Refusal} → outcome ≡ answered (words_refusal dated places read report) 0 (kept_from read)
+      → outcome ≡ answered table 0 (kept_from words)
+  told {outcome} is = subst (λ (w : BookWords). outcome ≡ answered (words_refusal dated places w report) 0 (kept_from w)) same is
 
   -- a book: the words call for no refusal, and it is the one that they stand for
-  pub given_book : {book : Book} → Ok book ≡ answered (words_refusal dated places read report) 0 (book_from read) → (table ≡ 0) × (book ≡ book_from words)
+  pub given_book : {book : ByOwner} → Ok book ≡ answered (words_refusal dated places read report) 0 (kept_from read) → (table ≡ 0) × (book ≡ kept_from words)
   given_book is = answered_ok _ 0 _ (sym (told is))
 
   -- a refusal: its number is the table's, and not 0
-  pub refused_number : {why : Refusal} → Err why ≡ answered (words_refusal dated places read report) 0 (book_from read)
+  pub refused_number : {why : Refusal} → Err why ≡ answered (words_refusal dated places read report) 0 (kept_from read)
       → (number_in why ≡ table) × (0 < table)
   refused_number is =
       let refused = answered_err table 0 _ (sym (told is)) in

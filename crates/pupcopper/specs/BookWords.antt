@@ -1,9 +1,9 @@
 -- A book as the words that a host keeps: counts and mark, shortfalls by owner, balances; in both directions.
 -- Assumes nothing.
-use Rattle.std.specs.Prelude.{ℕ, ◌+◌, ◌*◌, ◌/◌, ◌%◌, Bool, cond, not, ◌&&◌, List, [], ◌∷◌, ltb, eqb, length, get_or, ℤ, pos}
-use Rattle.numbers.specs.Limits.{owners}
-use Rattle.numbers.specs.Lists.{list_below}
-use Rattle.settlement.specs.declared.Book.{Book}
+use Rattle.std.specs.Prelude.{ℕ, Bool, cond, not, ◌&&◌, List, [], ◌∷◌, ltb, eqb, length, get_or, ℤ, pos}
+use Rattle.settlement.specs.declared.Book.{Book as ByOwner}
+use Rattle.settlement.specs.Book.{Book}
+use Rattle.settlement.specs.ByOwner.{cell_count, read_off}
 
 -- the three slices of a book
 pub record BookWords : Type 0 where
@@ -14,12 +14,9 @@ pub record BookWords : Type 0 where
 abbrev pub words_in : List ℕ → List ℕ → List ℤ → BookWords
 words_in counts shortfalls balances = record { counts = counts; shortfalls = shortfalls; balances = balances }
 
--- how many words each has: the hours settled, the months closed, the mark and the year; two for each owner; the month's and the year's
+-- how many words each has: the hours settled, the months closed, the mark and the year; the book's cells; the month's and the year's
 abbrev pub count_words : ℕ
 count_words = 4
-
-abbrev pub shortfall_words : ℕ
-shortfall_words = 2 * owners
 
 abbrev pub balance_words : ℕ
 balance_words = 2
@@ -27,22 +24,16 @@ balance_words = 2
 -- ---- from a book to its words
 
 -- the hours settled, the months closed, the mark: 1 if the book is ended, else 0; and the year
-unfoldable pub counts_of : Book → List ℕ
-counts_of book = book.hours ∷ book.months ∷ cond book.ended 1 0 ∷ book.year ∷ []
-
--- "owner i at 2 times i for the month and the next cell for the year": the cell at a place
-abbrev pub cell_at : List ℕ → List ℕ → ℕ → ℕ
-cell_at month year place = cond (eqb (place % 2) 0) (get_or month (place / 2) 0) (get_or year (place / 2) 0)
-
-unfoldable pub by_owner : List ℕ → List ℕ → List ℕ
-by_owner month year = list_below (cell_at month year) shortfall_words
+unfoldable pub counts_of : ByOwner → List ℕ
+counts_of kept = kept.hours ∷ kept.months ∷ cond kept.ended 1 0 ∷ kept.year ∷ []
 
 -- the month balance, the year balance, each with its sign: "Each surplus becomes a signed balance" (Wish 6)
-unfoldable pub balances_of : Book → List ℤ
-balances_of book = book.monthbalance ∷ book.yearbalance ∷ []
+unfoldable pub balances_of : ByOwner → List ℤ
+balances_of kept = kept.monthbalance ∷ kept.yearbalance ∷ []
 
-abbrev pub words_of : Book → BookWords
-words_of book = words_in (counts_of book) (by_owner book.monthshort book.yearshort) (balances_of book)
+-- its shortfalls are the book's own cells, "owner i at 2 times i for the month and the next cell for the year" (Wish 11)
+abbrev pub words_of : ByOwner → BookWords
+words_of kept = words_in (counts_of kept) kept.shortfalls (balances_of kept)
 
 -- ---- from words to the book
 
@@ -52,33 +43,33 @@ mark_in words = get_or words.counts 2 0
 abbrev pub year_in : BookWords → ℕ
 year_in words = get_or words.counts 3 0
 
--- the cells of all owners: the month's from place 0 on, the year's from place 1 on
-unfoldable pub cells_from : List ℕ → ℕ → List ℕ
-cells_from shortfalls start = list_below (λ owner. get_or shortfalls (2 * owner + start) 0) owners
-
 -- the month balance is the balance 0, the year balance the balance 1
 abbrev pub balance_in : BookWords → ℕ → ℤ
 balance_in words place = get_or words.balances place (pos 0)
 
-unfoldable pub book_from : BookWords → Book
-book_from words =
+-- the book by owner that the words stand for
+unfoldable pub kept_from : BookWords → ByOwner
+kept_from words =
     record {
       year = year_in words;
       hours = get_or words.counts 0 0;
       months = get_or words.counts 1 0;
       ended = eqb (mark_in words) 1;
-      monthshort = cells_from words.shortfalls 0;
-      yearshort = cells_from words.shortfalls 1;
+      shortfalls = words.shortfalls;
       monthbalance = balance_in words 0;
       yearbalance = balance_in words 1;
     }
+
+-- the book of the rules that they stand for
+abbrev pub book_from : BookWords → Book
+book_from words = read_off (kept_from words)
 
 -- ---- words that are no book's
 
 -- so many words are no book's
 abbrev pub is_no_book : ℕ → ℕ → ℕ → Bool
 is_no_book counts shortfalls balances =
-    not (eqb counts count_words && eqb shortfalls shortfall_words && eqb balances balance_words)
+    not (eqb counts count_words && eqb shortfalls cell_count && eqb balances balance_words)
 
 abbrev pub is_wrong_count : BookWords → Bool
 is_wrong_count words = is_no_book (length words.counts) (length words.shortfalls) (length words.balances)

@@ -10,6 +10,7 @@ use Rattle.rights.specs.Layout.{reading}
 use Rattle.rights.specs.Reader.{is_finished, next_after}
 use Rattle.settlement.specs.Events.{Call, refusal, record_of, fund, demand, book_after, lines}
 use Rattle.settlement.specs.Book.{opened}
+use Rattle.settlement.specs.ByOwner.{laid_out}
 use Rattle.pupcopper.specs.BookWords.{BookWords, words_of, book_from, year_in, has_no_year, is_wrong_count, is_wrong_mark}
 
 -- the number of a call: that of its words, or the library's where they have none
@@ -84,7 +85,7 @@ open_refusal year words = first_refusal ((15 if is_outside year) ∷ (4 if is_wr
 
 -- its words after it: those of the opened book, which with 15 is "a book all 0, year included"; so many words that are no book's stay
 abbrev pub words_opened : ℕ → BookWords → BookWords
-words_opened year words = cond (is_wrong_count words) words (words_of (opened year))
+words_opened year words = cond (is_wrong_count words) words (words_of (laid_out (opened year)))
 
 -- an event's report: the record number, F with its sign, and D
 abbrev pub settled_report : ℕ → ℤ → ℕ → List ℤ
@@ -118,5 +119,5 @@ pub record Settles (call : Call) (words : BookWords) (report lent : List ℤ) (g
   pub reports : report_after
       ≡ cond (is_wrong_report settled_words (length report)) report
       (settled_report (record_of call (year_in words) given) (answer_by given (fund call (book_from words)) (pos 0)) (answer_by given (demand call (book_from words)) 0))
-  pub gives_book : words_after ≡ answer_by given (words_of (book_after call (book_from words))) words
+  pub gives_book : words_after ≡ answer_by given (words_of (laid_out (book_after call (book_from words)))) words
   pub writes_lines : lines_after ≡ answer_by given (lines call (book_from words)) lent

@@ -3,6 +3,7 @@
 use Rattle.std.specs.Prelude.{ℕ, cond, List, [], ◌∷◌, length, get_or, ℤ, pos}
 use Rattle.numbers.specs.Signs.{positive}
 use Rattle.settlement.specs.Book.{fresh}
+use Rattle.settlement.specs.ByOwner.{laid_out}
 use Rattle.settlement.specs.Events.{Call}
 use Rattle.settlement.specs.Ledger.{Entry}
 use Rattle.pupcopper.specs.BookWords.{BookWords, words_of, book_from}
@@ -20,7 +21,7 @@ pub record HostEntry : Type 0 where
 
 -- the words after a list of calls, newest first: those of a fresh book of the year, and then those that the call before left
 unfoldable pub words_at : ℕ → List HostEntry → BookWords
-words_at year [] = words_of (fresh year)
+words_at year [] = words_of (laid_out (fresh year))
 words_at year (entry ∷ past) = entry.words
 
 -- each call is answered, as the calls' contracts say, on the words that the calls below it left

@@ -4,7 +4,7 @@ use Rattle.std.specs.Prelude.{ℕ, ◌≡◌, true, false, cond, List, [], ◌�
 use Rattle.numbers.specs.Refusals.{answer_by}
 use Rattle.statement_text.specs.Buffer.{text_after}
 use Rattle.statement_text.specs.Text.{line_room}
-use Rattle.settlement.specs.declared.Book.{Book}
+use Rattle.settlement.specs.Book.{Book}
 use Rattle.settlement_run.specs.declared.Run.{Run}
 use Rattle.settlement_run.specs.Run.{stops}
 use Rattle.settlement_run.specs.Calls.{run_at, stepped_run, stepped_text, last_text, closed}

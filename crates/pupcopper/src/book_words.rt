@@ -1,21 +1,19 @@
 // The book as three lent slices: its counts and mark, its shortfalls by owner, its balances.
 ghost use Rattle.std.specs.Prelude.{◌^◌, ◌<◌, ◌≡◌, false, cond, List, ℤ, length};
 ghost use Rattle.numbers.specs.Refusals.{answer_by, answered};
-ghost use Rattle.settlement.specs.Events.{Call, Answered, in_numbers};
+ghost use Rattle.settlement.specs.ByOwner.{in_numbers, AnsweredByOwner};
+ghost use Rattle.settlement.specs.Events.{Call};
 ghost use Rattle.std.specs.Borrow.{MutBor};
-ghost use Rattle.pupcopper.specs.BookWords.{by_owner, words_of, cells_from, book_from, shortfall_words, is_wrong_count};
+ghost use Rattle.pupcopper.specs.BookWords.{words_of, kept_from, is_wrong_count};
 ghost use Rattle.pupcopper.specs.Calls.{is_wrong_report, settled_report, settled_words, words_refusal, Settles};
 ghost use Rattle.pupcopper.specs.InnerContracts.{bytes_lent, words_read, words_lent, SameSlices, ResultFits};
 
 use crate::reports;
-use numbers::{OWNERS, Refusal};
-use settlement::{Book, Settled};
-use std::array;
+use numbers::Refusal;
+use settlement::{Book, CELLS, Settled};
 
-// The words of each: hours, months, mark and year; two for each owner; the month's and the year's.
+// The words of counts and of balances: hours, months, mark and year; the month's and the year's. The shortfalls are the book's cells.
 const COUNT_WORDS: usize = 4;
-
-const SHORTFALL_WORDS: usize = 2 * OWNERS;
 
 const BALANCE_WORDS: usize = 2;
 
@@ -33,15 +31,15 @@ impl BookWords<'_> {
         ensures { result ≡ is_wrong_count (words_read self.now) }
     {
         !((self.counts.len() == COUNT_WORDS)
-            & (self.shortfalls.len() == SHORTFALL_WORDS)
+            & (self.shortfalls.len() == CELLS)
             & (self.balances.len() == BALANCE_WORDS))
     }
 
     // The book that the words stand for, or what they and a report that should have so many places call for before there is one: 4, 15 or
     // 1. `dated` is whether the call knows the calendar, so that it looks at the year.
-    #[tactic(auto, using(crate::proofs::WordRows::rows), unfolding(crate::specs::BookWords::book_from))]
+    #[tactic(auto, using(crate::proofs::WordRows::rows), unfolding(crate::specs::BookWords::kept_from))]
     pub(crate) fn book(&self, dated: bool, report: usize, places: usize) -> Result<Book, Refusal>
-        ensures { result ≡ answered (words_refusal dated places (words_read self.now) report) 0 (book_from (words_read self.now)) }
+        ensures { result ≡ answered (words_refusal dated places (words_read self.now) report) 0 (kept_from (words_read self.now)) }
     {
         if self.counts.len() != COUNT_WORDS {
             return Err(Refusal::WrongLength);
@@ -58,25 +56,18 @@ impl BookWords<'_> {
         if self.counts[2] > 1 {
             return Err(Refusal::SpoiledBook);
         }
+        let mut shortfalls = [0; CELLS];
+        shortfalls.copy_from_slice(self.shortfalls);
         Ok(Book {
             year: self.counts[3],
             hours: self.counts[0],
             months: self.counts[1],
             ended: self.counts[2] == 1,
-            monthshort: cells_from(self.shortfalls, 0),
-            yearshort: cells_from(self.shortfalls, 1),
+            shortfalls,
             monthbalance: self.balances[0],
             yearbalance: self.balances[1],
         })
     }
-}
-
-// Every second cell from a place on: the month's from 0, the year's from 1.
-fn cells_from(shortfalls: &[u64], start: usize) -> [u64; OWNERS]
-    requires { (length shortfalls.now ≡ shortfall_words) × (start < 2) }
-    ensures { result ≡ cells_from shortfalls.now start }
-{
-    array::from_fn(|owner| shortfalls[2 * owner + start])
 }
 
 // A book's words as a host lends them, to read and to write. Beside `BookWords`: the language has no one type for both, and `words` leads from
@@ -108,7 +99,7 @@ impl LentBook<'_> {
         ensures same_slices { SameSlices self.old self.new }
     {
         self.counts.copy_from_slice(&[book.hours, book.months, u64::from(book.ended), book.year]);
-        write_cells(&book.monthshort, &book.yearshort, self.shortfalls);
+        self.shortfalls.copy_from_slice(&book.shortfalls);
         self.balances
             .copy_from_slice(&[book.monthbalance, book.yearbalance]);
     }
@@ -123,7 +114,7 @@ impl LentBook<'_> {
     ) -> u8
         ghost call: { Call }
         requires callable { F.IsAlwaysCallable event }
-        requires performs { (before after : MutBor (List ℤ)) (settled : Settled) → before.now ≡ lines.old → F.post event (book_from (words_lent self.old)) before settled after → Answered call (book_from (words_lent self.old)) lines.old (in_numbers settled) after.now }
+        requires performs { (before after : MutBor (List ℤ)) (settled : Settled) → before.now ≡ lines.old → F.post event (kept_from (words_lent self.old)) before settled after → AnsweredByOwner call (kept_from (words_lent self.old)) lines.old settled.outcome settled.book after.now }
         requires few { bytes_lent call < 2 ^ 63 }
         ensures settles { Settles call (words_lent self.old) report.old lines.old result (words_lent self.new) report.new lines.new }
         ensures same_slices { SameSlices self.old self.new }
@@ -165,18 +156,5 @@ impl LentBook<'_> {
                 refusal.number()
             }
         }
-    }
-}
-
-// Writes each owner's month shortfall and, in the next place, its year shortfall.
-fn write_cells(month: &[u64; OWNERS], year: &[u64; OWNERS], shortfalls: &mut [u64])
-    requires { length shortfalls.old ≡ shortfall_words }
-    ensures { shortfalls.new ≡ by_owner month.now year.now }
-{
-    // By index: tried with the pairs of `as_chunks_mut`, of which no contract says what the lent slice ends as, so the proof did not close. By
-    // `iter_mut().enumerate()` each place would be asked whether it is even: no plainer.
-    for owner in 0..OWNERS {
-        shortfalls[2 * owner] = month[owner];
-        shortfalls[2 * owner + 1] = year[owner];
     }
 }

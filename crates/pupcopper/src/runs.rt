@@ -1,6 +1,7 @@
 // A run from a host's book, and the words that say where it then stands.
 ghost use Rattle.std.specs.Prelude.{◌≡◌};
 ghost use Rattle.settlement.specs.Book.{opened};
+ghost use Rattle.settlement.specs.ByOwner.{read_off};
 ghost use Rattle.pupcopper.specs.RunCalls.{run_of, stepped_report, closed_report};
 
 use settlement::Book;
@@ -14,8 +15,9 @@ pub(crate) const CLOSED_WORDS: usize = 2;
 
 // The run that stands at a book, stopped by a refusal or by none; its own fields by hand, as in `opening`, since a run of any refusal is a
 // host's alone. The refusal is a number, and may be any: the C interface.
+#[tactic(auto, using(settlement::proofs::ByOwner::laid_back))]
 pub(crate) fn run_from(book: Book, refusal: u8, end: usize) -> Run
-    ensures { result ≡ run_of book refusal end }
+    ensures { result ≡ run_of (read_off book) refusal end }
 {
     Run {
         full: false,
@@ -29,6 +31,7 @@ pub(crate) fn run_from(book: Book, refusal: u8, end: usize) -> Run
 }
 
 // A run that did not move, for a report, which does not show the book.
+#[tactic(auto, using(settlement::proofs::ByOwner::opened_back))]
 pub(crate) fn unmoved(end: usize) -> Run
     ensures { result ≡ run_of (opened 0) 0 end }
 {

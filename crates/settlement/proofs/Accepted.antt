@@ -12,8 +12,7 @@ use Rattle.numbers.specs.Lists.{total}
 use Rattle.numbers.specs.Refusals.{first_refusal}
 use Rattle.numbers.proofs.Refusals.{refusal_both}
 use Rattle.calendar.specs.Year.{hours_in_year, months_in_year, is_month_end}
-use Rattle.settlement.specs.declared.Book.{Book}
-use Rattle.settlement.specs.Book.{all_shortfalls}
+use Rattle.settlement.specs.Book.{Book, all_shortfalls}
 use Rattle.settlement.specs.Events.{Call, hour_call, month_end_call, year_end_call, event_of, next_targets, hour_charges, wants, fund, book_after, is_out_of_turn, input_rows, size_rows, own_rows, refusal}
 use Rattle.settlement.proofs.Balances.{InBounds, fund_in_bounds}
 use Rattle.settlement.proofs.SharingOut.{size_clear}

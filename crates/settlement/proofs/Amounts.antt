@@ -7,7 +7,7 @@ use lib.ListN.{length}
 use Rattle.numbers.specs.Limits.{most_cents}
 use Rattle.rights.specs.Layout.{record_count}
 use Rattle.rights.proofs.Faults.{faulty_within}
-use Rattle.settlement.specs.declared.Book.{Book}
+use Rattle.settlement.specs.Book.{Book}
 use Rattle.settlement.specs.Events.{Call, hour_call, month_end_call, year_end_call, event_of, wants, demand, refusal, record_of}
 use Rattle.settlement.proofs.Accepted.{hour_accepted}
 use Rattle.settlement.proofs.NotSpoiled.{shortfalls_within}

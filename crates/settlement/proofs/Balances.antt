@@ -13,8 +13,7 @@ use Rattle.std.proofs.lemmas.Int.{to_z-of_z, to_z_pos}
 use Rattle.numbers.specs.Limits.{most_cents}
 use Rattle.numbers.proofs.Booleans.{neither_true}
 use Rattle.calendar.proofs.AlmanacLaws.{most_hours}
-use Rattle.settlement.specs.declared.Book.{Book}
-use Rattle.settlement.specs.Book.{fund_left, least_collected, most_collected, most_brought, is_out_of_bounds}
+use Rattle.settlement.specs.Book.{Book, fund_left, least_collected, most_collected, most_brought, is_out_of_bounds}
 use Rattle.settlement.specs.Events.{is_wild_amount}
 
 -- "lie between hours times -4,000,000,000 and hours times 4,004,000,000,000"

@@ -15,12 +15,11 @@ use Rattle.numbers.specs.Lists.{total}
 use Rattle.numbers.specs.Refusals.{answered, first_refusal}
 use Rattle.numbers.proofs.Counts.{get_or_le_total}
 use Rattle.numbers.proofs.Refusals.{answered_ok}
-use Rattle.settlement.specs.declared.Book.{Book}
 use Rattle.settlement.specs.declared.End.{End}
 use Rattle.settlement.specs.declared.End.TheVariants.{Month, Year}
 use Rattle.settlement.specs.declared.Event.{Event}
 use Rattle.settlement.specs.declared.payment.Paid.{Paid}
-use Rattle.settlement.specs.Book.{is_spoiled, all_shortfalls}
+use Rattle.settlement.specs.Book.{Book, is_spoiled, all_shortfalls}
 use Rattle.settlement.specs.Ends.{end_call, event_at}
 use Rattle.settlement.specs.Events.{payout, paid, payment_lines, lines, event_rows, own_rows, refusal, record_of}
 use Rattle.settlement.specs.InnerContracts.{paid_from}
@@ -59,10 +58,10 @@ pub record Passed (end : End) (book : Book) (places : ℕ) : Type 0 where
   pub sound : is_spoiled book ≡ false
   pub lent : places ≡ owners
 
-pub passed : (end : End) {event : Event} (book : Book) (places : ℕ) {outcome : Result (Unit {0}) Refusal} {done : Unit {0}} → event ≡ event_at end
-    → outcome ≡ answered (first_refusal (event_rows event book places)) 0 tt → outcome ≡ Ok done → Passed end book places
+pub passed : (end : End) {event : Event} (book : Book) (places : ℕ) {outcome : Result ℕ Refusal} {carry : ℕ} → event ≡ event_at end
+    → outcome ≡ answered (first_refusal (event_rows event book places)) 0 (all_shortfalls book) → outcome ≡ Ok carry → Passed end book places
 passed end {event} book places is outcome ok =
-    let none = (answered_ok _ 0 tt (sym outcome ∙ ok)).0 in
+    let none = (answered_ok _ 0 (all_shortfalls book) (sym outcome ∙ ok)).0 in
     let clear = event_clear event book places none in
     record { accepted = sym (end_refusal end book places is) ∙ none; sound = clear.0; lent = clear.3 }
 

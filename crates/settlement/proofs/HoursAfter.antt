@@ -4,8 +4,7 @@ use Prim.Native.Nat.{ℕ, ◌+◌}
 use mathlib.Core.Path.{◌≡◌, refl}
 use mathlib.Core.List.{List}
 use lib.IntN.{ℤ}
-use Rattle.settlement.specs.declared.Book.{Book}
-use Rattle.settlement.specs.Book.{fresh}
+use Rattle.settlement.specs.Book.{Book, fresh}
 use Rattle.settlement.specs.Events.{Call, hour_call, month_end_call, year_end_call, book_after}
 
 pub fresh_hours : (year : ℕ) → (fresh year).hours ≡ 0

@@ -15,8 +15,7 @@ use Rattle.numbers.specs.Limits.{owners}
 use Rattle.numbers.specs.Lists.{total}
 use Rattle.calendar.specs.Almanac.{is_outside}
 use Rattle.calendar.specs.Year.{months_in_year}
-use Rattle.settlement.specs.declared.Book.{Book}
-use Rattle.settlement.specs.Book.{fresh, month_short, open_shortfall, is_short, fund_left}
+use Rattle.settlement.specs.Book.{Book, fresh, month_short, open_shortfall, is_short, fund_left}
 use Rattle.settlement.specs.Ledger.{Entry, over, since, sum_over, sum_since, balance_over, balance_since, hour_count, month_end_count, year_end_count, positive_target, credit, hour_credit, charge, collection, of_all}
 use Rattle.settlement.proofs.EntryParts.{Nothing, over_next, since_next, balance_next, balance_since_next, none_of_all}
 use Rattle.settlement.proofs.Balances.{nothing_in_bounds}

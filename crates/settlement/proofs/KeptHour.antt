@@ -17,8 +17,7 @@ use Rattle.numbers.proofs.Counts.{length_list_below}
 use Rattle.calendar.specs.Year.{months_in_year, month_end, is_month_end}
 use Rattle.target.specs.Target.{target}
 use Rattle.target.proofs.Answer.{target_at}
-use Rattle.settlement.specs.declared.Book.{Book}
-use Rattle.settlement.specs.Book.{month_short, fund_left}
+use Rattle.settlement.specs.Book.{Book, month_short, fund_left}
 use Rattle.settlement.specs.Events.{Settled, Call, hour_call, next_targets, target_of, hour_charges, fund, left_over, added_to, book_after}
 use Rattle.settlement.specs.Ledger.{Entry, book_at, hour_count, month_end_count, year_end_count, positive_target, credit, hour_credit, charge, collection, of_all}
 use Rattle.settlement.proofs.Shares.{wanted, paid_to, unpaid, wants_long, added_at, unpaid_paid, paid_closes, left_is, hour_wanted, charge_is}

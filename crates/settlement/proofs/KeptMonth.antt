@@ -18,8 +18,7 @@ use Rattle.numbers.proofs.Counts.{length_list_below}
 use Rattle.numbers.proofs.Booleans.{both_true}
 use Rattle.calendar.specs.Year.{months_in_year, month_end, is_month_end}
 use Rattle.calendar.proofs.MonthEnds.{months_rise, last_month}
-use Rattle.settlement.specs.declared.Book.{Book}
-use Rattle.settlement.specs.Book.{month_short, year_short}
+use Rattle.settlement.specs.Book.{Book, month_short, year_short}
 use Rattle.settlement.specs.Events.{Settled, month_end_call, wants, fund, paid, left_over, unpaid_of, added_to, book_after}
 use Rattle.settlement.specs.Ledger.{Entry, book_at, hour_count, month_end_count, year_end_count, positive_target, credit, hour_credit, charge, collection, of_all}
 use Rattle.settlement.proofs.Paying.{unpaid_small, added_total}

@@ -17,8 +17,7 @@ use Rattle.numbers.specs.Limits.{owners}
 use Rattle.numbers.specs.Lists.{total, list_below}
 use Rattle.numbers.proofs.Counts.{length_list_below}
 use Rattle.calendar.specs.Year.{months_in_year}
-use Rattle.settlement.specs.declared.Book.{Book}
-use Rattle.settlement.specs.Book.{year_short, open_shortfall, is_short, fund_left}
+use Rattle.settlement.specs.Book.{Book, year_short, open_shortfall, is_short, fund_left}
 use Rattle.settlement.specs.Events.{Settled, year_end_call, wants, fund, demand, paid, left_over, unpaid_of, book_after}
 use Rattle.settlement.specs.Ledger.{Entry, book_at, hour_count, month_end_count, year_end_count, positive_target, credit, hour_credit, charge, collection, of_all}
 use Rattle.settlement.proofs.Paying.{unpaid_small}

@@ -1,6 +1,8 @@
 pub mod Accepted
+pub mod Adding
 pub mod Amounts
 pub mod Balances
+pub mod ByOwner
 pub mod ClaimHolds
 pub mod Closing
 pub mod EntryParts
@@ -10,6 +12,7 @@ pub mod Kept
 pub mod KeptHour
 pub mod KeptMonth
 pub mod KeptYear
+pub mod ListsByOwner
 pub mod NeverStuck
 pub mod NotSpoiled
 pub mod OneLedger

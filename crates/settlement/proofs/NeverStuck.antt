@@ -18,7 +18,7 @@ use Rattle.calendar.specs.Almanac.{is_outside}
 use Rattle.calendar.specs.Year.{hours_in_year, months_in_year, month_end, is_month_end}
 use Rattle.calendar.proofs.MonthEnds.{within_year}
 use Rattle.target.specs.Target.{is_wrong_lines}
-use Rattle.settlement.specs.declared.Book.{Book}
+use Rattle.settlement.specs.Book.{Book}
 use Rattle.settlement.specs.Events.{Call, hour_call, month_end_call, year_end_call, event_of, is_out_of_turn, is_due, event_rows, own_rows, refusal}
 use Rattle.settlement.specs.Ledger.{Asked, book_at, ledger_of}
 use Rattle.settlement.specs.Progress.{due_events, GoesOn}

@@ -1,17 +1,16 @@
 -- What is so of a book that is not spoiled.
 -- Assumes nothing.
-use Prim.Native.Nat.{ℕ, ◌≤◌}
+use Prim.Native.Nat.{ℕ, ◌≤◌, ◌<◌}
 use mathlib.Core.Path.{◌≡◌, refl, sym, ap, ◌∙◌}
-use mathlib.Core.Bool.{Bool, false, not, ◌&&◌, ◌||◌}
+use mathlib.Core.Bool.{Bool, true, false, not, ◌&&◌, ◌||◌}
 use native.Mathlib.Omega.{arith}
 use lib.Dec.{leb, ltb, eqb}
 use lib.IntN.{ℤ}
-use borrow.Author.Tests.{ltb-false}
+use borrow.Author.Tests.{ltb-false, lt-ltb}
 use Rattle.numbers.specs.Limits.{most_cents}
 use Rattle.numbers.proofs.Booleans.{neither_true}
 use Rattle.calendar.specs.Year.{hours_in_year, months_in_year, month_end}
-use Rattle.settlement.specs.declared.Book.{Book}
-use Rattle.settlement.specs.Book.{last_end, all_shortfalls, fund_left, out_of_step, is_out_of_bounds, is_spoiled}
+use Rattle.settlement.specs.Book.{Book, last_end, all_shortfalls, fund_left, out_of_step, is_out_of_bounds, is_spoiled}
 use Rattle.calendar.proofs.AlmanacLaws.{most_hours, hours_most}
 use Rattle.settlement.proofs.Balances.{Bounded, in_bounds}
 
@@ -76,6 +75,11 @@ module _ (book : Book) where
 
     pub few_hours : book.hours ≤ most_hours
     few_hours = hours_few book.year book.hours book.months book.ended in_step
+
+  -- too many shortfalls
+  pub too_many : is_astray ≡ false → most_cents < all_shortfalls book → true ≡ is_spoiled book
+  unfolding is_spoiled
+  too_many astray over = rw (astray, lt-ltb most_cents (all_shortfalls book) over) refl
 
   -- where nothing but the two balances together is left to be looked at, they decide; from the parts that the code has worked out
   pub by_both : {month year both : ℤ} {off : Bool} → month ≡ book.monthbalance → year ≡ book.yearbalance → both ≡ fund_left book

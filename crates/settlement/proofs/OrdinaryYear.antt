@@ -12,8 +12,7 @@ use lib.Signed.{◌≤ℤ◌}
 use borrow.Author.Differences.{ints}
 use Rattle.numbers.specs.Refusals.{answer_by}
 use Rattle.calendar.specs.Almanac.{is_outside}
-use Rattle.settlement.specs.declared.Book.{Book}
-use Rattle.settlement.specs.Book.{fresh}
+use Rattle.settlement.specs.Book.{Book, fresh}
 use Rattle.settlement.specs.Events.{Call, hour_call, month_end_call, year_end_call, fund, left_over, book_after, refusal}
 use Rattle.settlement.specs.Ledger.{Asked, book_at, ledger_of, call_amount}
 use Rattle.settlement.specs.OrdinaryYear.{IsOrdinary, StaysOrdinary}

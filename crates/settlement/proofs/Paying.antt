@@ -6,17 +6,18 @@ use mathlib.Core.Bool.{false}
 use mathlib.Core.List.{List}
 use native.Mathlib.Omega.{arith}
 use lib.ListN.{length, get_or}
-use lib.IntN.{ℤ}
+use lib.IntN.{ℤ, pos, ◌+ℤ◌, ◌-ℤ◌}
+use borrow.Author.Differences.{ints}
 use Rattle.numbers.specs.Limits.{owners, most_cents}
 use Rattle.numbers.specs.Lists.{total}
 use Rattle.numbers.proofs.Refusals.{has_number, refusal_never}
-use Rattle.numbers.proofs.Counts.{get_or_le_total, list_of_elements, total_add, total_mono}
+use Rattle.numbers.proofs.Counts.{get_or_le_total, list_of_elements, list_below_ext, total_add, total_mono}
 use Rattle.split.specs.Split.{split_refusal}
 use Rattle.split.proofs.Answers.{accepted, scope_rows, widest_table}
 use Rattle.settlement.specs.declared.payment.Paid.{Paid}
 use Rattle.settlement.specs.Events.{hall, payout, unpaid_of, added_to}
 use Rattle.settlement.specs.InnerContracts.{paid_from}
-use Rattle.settlement.proofs.Payouts.{payout_at_most}
+use Rattle.settlement.proofs.Payouts.{payout_length, payout_at_most, payout_closes}
 
 -- what is unpaid is no more than what was wanted
 pub unpaid_small : (wants payments : List ℕ) → length wants ≡ owners → total (unpaid_of wants payments) ≤ total wants
@@ -24,6 +25,25 @@ unfolding unpaid_of
 unpaid_small wants payments all =
     let each = total_mono (λ i. get_or wants i 0 - get_or payments i 0) (λ i. get_or wants i 0) owners (λ i l. omega arith) in
     omega (arith, ap total (list_of_elements wants 0 all))
+
+-- it is all but what is paid
+unpaid_and_paid : (wants payments : List ℕ) → ((i : ℕ) → get_or payments i 0 ≤ get_or wants i 0) → length wants ≡ owners
+    → length payments ≡ owners → total (unpaid_of wants payments) + total payments ≡ total wants
+unfolding unpaid_of
+unpaid_and_paid wants payments most all both =
+    let parts = total_add (λ i. get_or wants i 0 - get_or payments i 0) (λ i. get_or payments i 0) owners in
+    let whole =
+    list_below_ext (λ i. get_or wants i 0 - get_or payments i 0 + get_or payments i 0) (λ i. get_or wants i 0) owners
+    (λ i inside. omega (arith, most i)) in
+    omega (arith, parts, ap total whole, ap total (list_of_elements payments 0 both), ap total (list_of_elements wants 0 all))
+
+-- of any fund: so it is the wants but for what is not left of the fund
+pub unpaid_is : (fund : ℤ) (wants : List ℕ) → length wants ≡ owners
+    → pos (total (unpaid_of wants (payout fund wants).payments)) +ℤ (fund -ℤ (payout fund wants).left) ≡ pos (total wants)
+unpaid_is fund wants all =
+    let closes = payout_closes fund wants in
+    let parts = unpaid_and_paid wants (payout fund wants).payments (payout_at_most fund wants) all (payout_length fund wants ∙ all) in
+    omega (arith, ints, closes, parts)
 
 -- cells with something added come to both sums
 pub added_total : (cells more : List ℕ) → length cells ≡ owners → length more ≡ owners → total (added_to cells more) ≡ total cells + total more

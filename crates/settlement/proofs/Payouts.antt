@@ -17,7 +17,7 @@ use Rattle.settlement.specs.Claim.{IsNear}
 use Rattle.settlement.proofs.Balances.{IsLeft}
 
 -- payments of nothing
-nothing_to : (n i : ℕ) → get_or {A = ℕ} (replicate n 0) i 0 ≡ 0
+pub nothing_to : (n i : ℕ) → get_or {A = ℕ} (replicate n 0) i 0 ≡ 0
 nothing_to zero i = refl
 nothing_to (suc n) zero = refl
 nothing_to (suc n) (suc i) = nothing_to n i

@@ -25,11 +25,10 @@ use Rattle.rights.specs.Faults.{fault_at, any_fault, fault_rows}
 use Rattle.rights.proofs.Faults.{rows_within, fault_from_rows, faulty_none, faulty_other, first_faulty}
 use Rattle.target.specs.Target.{is_wrong_lines, lent_rows, target_refusal}
 use Rattle.target.proofs.Answer.{lent_within, lent_rows_lem}
-use Rattle.settlement.specs.declared.Book.{Book}
 use Rattle.settlement.specs.declared.Event.{Event}
 use Rattle.settlement.specs.declared.Event.TheVariants.{Hour}
 use Rattle.settlement.specs.declared.Funding.{Funding}
-use Rattle.settlement.specs.Book.{is_spoiled}
+use Rattle.settlement.specs.Book.{Book, is_spoiled}
 use Rattle.settlement.specs.Events.{Settled, result_of, Call, hour_call, month_end_call, year_end_call, event_of, next_targets, hour_charges, wants, fund, demand, lines, book_after, is_out_of_turn, is_wild_amount, event_rows, input_rows, size_rows, own_rows, refusal, record_of, Answered}
 
 -- ---- the rows that every event has

@@ -10,7 +10,7 @@ use Rattle.numbers.specs.Limits.{owners}
 use Rattle.numbers.specs.Lists.{total, list_below}
 use Rattle.numbers.specs.Signs.{positive, negative}
 use Rattle.numbers.proofs.Counts.{length_list_below, get_or_list_below, total_add}
-use Rattle.settlement.specs.declared.Book.{Book}
+use Rattle.settlement.specs.Book.{Book}
 use Rattle.settlement.specs.Events.{Call, hour_call, month_end_call, year_end_call, hour_lines, payment_lines, lines, Answered}
 use Rattle.settlement.specs.Ledger.{Entry, book_at, IsLedger, at_hour, year_end_count, over, sum_over, balance_over, line_of, credit, charge, of_all}
 use Rattle.settlement.proofs.Shares.{credit_is}

@@ -9,8 +9,7 @@ use borrow.Author.Tests.{le-ltb, le-leb, ltb-true, eqb-true, eq-eqb}
 use Rattle.numbers.specs.Limits.{most_cents}
 use Rattle.calendar.specs.Almanac.{is_outside}
 use Rattle.calendar.specs.Year.{hours_in_year, months_in_year, month_end}
-use Rattle.settlement.specs.declared.Book.{Book}
-use Rattle.settlement.specs.Book.{all_shortfalls, fund_left, last_end, off_month, out_of_step, is_spoiled}
+use Rattle.settlement.specs.Book.{Book, all_shortfalls, fund_left, last_end, off_month, out_of_step, is_spoiled}
 use Rattle.settlement.proofs.Balances.{Bounded, bounds_clear}
 
 pub record Sane (book : Book) : Type 0 where

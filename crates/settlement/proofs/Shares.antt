@@ -11,7 +11,7 @@ use Rattle.numbers.specs.Limits.{owners}
 use Rattle.numbers.specs.Lists.{total, list_below}
 use Rattle.numbers.specs.Signs.{positive, negative}
 use Rattle.numbers.proofs.Counts.{get_or_list_below, list_of_elements}
-use Rattle.settlement.specs.declared.Book.{Book}
+use Rattle.settlement.specs.Book.{Book}
 use Rattle.settlement.specs.Events.{Call, hour_call, month_end_call, year_end_call, next_targets, target_of, hour_wants, wants, fund, demand, paid, left_over, hour_line, hour_lines, payment_lines, lines, unpaid_of, added_to}
 use Rattle.settlement.specs.Claim.{IsNear}
 use Rattle.settlement.proofs.Balances.{IsLeft}

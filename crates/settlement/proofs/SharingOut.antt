@@ -1,25 +1,25 @@
--- An hour shared out from its targets: refused by its size, or its shares.
+-- An hour shared out from its targets: refused by its size, or paid.
 -- Assumes nothing.
 use Prim.Native.Nat.{ℕ, ◌+◌, ◌≤◌, ◌<◌}
 use mathlib.Core.Path.{◌≡◌, sym, ap, ap₂, ◌∙◌}
-use mathlib.Core.Bool.{true, false}
 use mathlib.Core.List.{List}
 use native.Mathlib.Omega.{arith}
-use lib.Dec.{ltb}
 use lib.ListN.{length}
-use lib.IntN.{ℤ, pos, ◌+ℤ◌}
+use lib.IntN.{ℤ, pos, ◌+ℤ◌, ◌-ℤ◌}
+use lib.Signed.{◌≤ℤ◌}
+use borrow.Author.Differences.{ints}
 use borrow.Author.Tests.{ltb-false, lt-ltb, le-ltb}
 use Rattle.numbers.specs.Limits.{owners, most_cents}
 use Rattle.numbers.specs.Lists.{total}
 use Rattle.numbers.specs.Refusals.{answered, first_refusal}
 use Rattle.numbers.proofs.Counts.{length_list_below}
 use Rattle.numbers.proofs.Refusals.{refusal_none, refusal_here, refusal_next, refusal_clear}
-use Rattle.settlement.specs.declared.Book.{Book}
 use Rattle.settlement.specs.declared.payment.Paid.{Paid}
-use Rattle.settlement.specs.declared.payment.Shares.{Shares}
-use Rattle.settlement.specs.Book.{all_shortfalls}
-use Rattle.settlement.specs.Events.{hour_wants, hour_charges, hour_fund, added_to, hour_book, size_rows}
-use Rattle.settlement.specs.InnerContracts.{paid_from, shares_of}
+use Rattle.settlement.specs.Book.{Book, all_shortfalls}
+use Rattle.settlement.specs.Events.{hour_wants, hour_charges, hour_fund, unpaid_of, hour_book, sum_rows, size_rows}
+use Rattle.settlement.specs.InnerContracts.{paid_from, carry_rows}
+use Rattle.settlement.proofs.Paying.{added_total, unpaid_is}
+use Rattle.settlement.proofs.Payouts.{payout_closes}
 
 pub wants_length : (targets : List ℤ) → length (hour_wants targets) ≡ owners
 unfolding hour_wants
@@ -41,54 +41,82 @@ module _ (book : Book) (fund : ℤ) (wants : List ℕ) (charges : ℕ) where
       let r3 = refusal_clear 10 _ _ (omega arith) r2.1 in
       (ltb-false most_cents (total wants) r1.0, ltb-false most_cents charges r2.0, ltb-false most_cents (all_shortfalls (hour_book book fund wants)) r3.0)
 
-  pub wants_over : most_cents < total wants → size ≡ 9
-  unfolding size_rows
+-- they are those by all shortfalls together before it
+pub by_carry : (book : Book) (fund : ℤ) (wants : List ℕ) (charges : ℕ) → length book.monthshort ≡ owners
+    → size_rows book fund wants charges ≡ carry_rows (all_shortfalls book) fund wants charges
+unfolding size_rows unpaid_of
+by_carry book fund wants charges long =
+    let more = added_total book.monthshort (paid_from fund wants).unpaid long (length_list_below _ owners) in
+    let same : all_shortfalls (hour_book book fund wants) ≡ all_shortfalls book + total (paid_from fund wants).unpaid = omega (arith, more) in
+    ap (sum_rows (total wants) charges) same
+
+module _ (carry : ℕ) (fund : ℤ) (wants : List ℕ) (charges : ℕ) where
+  abbrev found : ℕ
+  found = first_refusal (carry_rows carry fund wants charges)
+
+  pub wants_over : most_cents < total wants → found ≡ 9
   wants_over over = refusal_here 9 _ (lt-ltb most_cents (total wants) over)
 
   module _ (few : total wants ≤ most_cents) where
-    pub charges_over : most_cents < charges → size ≡ 9
-    unfolding size_rows
+    pub charges_over : most_cents < charges → found ≡ 9
     charges_over over =
         refusal_next 9 _ (le-ltb most_cents (total wants) few) ∙ refusal_here 9 _ (lt-ltb most_cents charges over)
 
     module _ (light : charges ≤ most_cents) where
-      pub carry_over : ltb most_cents (all_shortfalls (hour_book book fund wants)) ≡ true → size ≡ 10
-      unfolding size_rows
+      abbrev after : ℕ
+      after = carry + total (paid_from fund wants).unpaid
+
+      pub carry_over : most_cents < after → found ≡ 10
       carry_over over =
           refusal_next 9 _ (le-ltb most_cents (total wants) few)
           ∙ refusal_next 9 _ (le-ltb most_cents charges light)
-          ∙ refusal_here 10 _ over
+          ∙ refusal_here 10 _ (lt-ltb most_cents after over)
 
-      pub all_within : ltb most_cents (all_shortfalls (hour_book book fund wants)) ≡ false → size ≡ 0
-      unfolding size_rows
+      pub all_within : after ≤ most_cents → found ≡ 0
       all_within within =
           refusal_next 9 _ (le-ltb most_cents (total wants) few)
           ∙ refusal_next 9 _ (le-ltb most_cents charges light)
-          ∙ refusal_next 10 _ within
+          ∙ refusal_next 10 _ (le-ltb most_cents after within)
           ∙ refusal_none
 
--- ---- the shares
+-- ---- what is paid
 
-module _ (book : Book) (collected : ℤ) (targets : List ℤ) where
-  abbrev number : ℕ
-  number = size book (hour_fund collected targets) (hour_wants targets) (hour_charges targets)
-
-  -- what is answered by the number
-  pub shared : (k : ℕ) → number ≡ k
-      → answered k 0 (shares_of book collected targets) ≡ answered number 0 (shares_of book collected targets)
-  shared k e = ap (λ (n : ℕ). answered n 0 (shares_of book collected targets)) (sym e)
+module _ (collected : ℤ) (targets : List ℤ) where
+  abbrev due : Paid
+  due = paid_from (hour_fund collected targets) (hour_wants targets)
 
   -- from the parts that the code has worked out
-  module _ {wants : List ℕ} {charges : ℕ} {paid : Paid} {next : List ℕ} (w : wants ≡ hour_wants targets) (c : charges ≡ hour_charges targets) (p : paid ≡ paid_from (collected +ℤ pos charges) wants) (n : next ≡ added_to book.monthshort paid.unpaid) where
-    paid_is : paid ≡ paid_from (hour_fund collected targets) (hour_wants targets)
-    paid_is = p ∙ ap₂ (λ (x : ℕ) (ws : List ℕ). paid_from (collected +ℤ pos x) ws) c w
+  pub paid_is : {wants : List ℕ} {charges : ℕ} {paid : Paid} → wants ≡ hour_wants targets → charges ≡ hour_charges targets
+      → paid ≡ paid_from (collected +ℤ pos charges) wants → paid ≡ due
+  paid_is w c p = p ∙ ap₂ (λ (x : ℕ) (ws : List ℕ). paid_from (collected +ℤ pos x) ws) c w
 
-    next_is : next ≡ (shares_of book collected targets).monthshort
-    next_is = n ∙ ap (λ (x : Paid). added_to book.monthshort x.unpaid) paid_is
+  module _ {paid : Paid} {left : ℤ} (p : paid ≡ due) (l : left ≡ paid.left) where
+    rest : left ≡ due.left
+    rest = l ∙ ap (λ (x : Paid). x.left) p
 
-    -- all shortfalls after the hour
-    pub carried : total next + total book.yearshort ≡ all_shortfalls (hour_book book (hour_fund collected targets) (hour_wants targets))
-    carried = ap (λ (cells : List ℕ). total cells + total book.yearshort) next_is
+    fund_is : paid.funding.fund ≡ due.funding.fund
+    fund_is = ap (λ (x : Paid). x.funding.fund) p
 
-    pub shares_are : ◌≡◌ {A = Shares} (record { paid = paid; monthshort = next }) (shares_of book collected targets)
-    shares_are = λ i. record { paid = paid_is i; monthshort = next_is i }
+    demand_is : paid.funding.demand ≡ total (hour_wants targets)
+    demand_is = ap (λ (x : Paid). x.funding.demand) p
+
+    -- what of F is not left
+    pub spent : (pos 0 ≤ℤ (paid.funding.fund -ℤ left)) × ((paid.funding.fund -ℤ left) ≤ℤ pos paid.funding.demand)
+    spent =
+        let closes = payout_closes (hour_fund collected targets) (hour_wants targets) in
+        let all = unpaid_is (hour_fund collected targets) (hour_wants targets) (wants_length targets) in
+        (omega (arith, ints, closes, rest, fund_is), omega (arith, ints, all, rest, fund_is, demand_is))
+
+    -- what is unpaid in all
+    pub unpaid_total : (unpaid : ℕ) → pos unpaid +ℤ (paid.funding.fund -ℤ left) ≡ pos paid.funding.demand → unpaid ≡ total due.unpaid
+    unpaid_total unpaid is =
+        let all = unpaid_is (hour_fund collected targets) (hour_wants targets) (wants_length targets) in
+        omega (arith, ints, is, all, rest, fund_is, demand_is)
+
+  -- what is answered by the number
+  module _ (carry : ℕ) where
+    abbrev number : ℕ
+    number = found carry (hour_fund collected targets) (hour_wants targets) (hour_charges targets)
+
+    pub shared : (k : ℕ) → number ≡ k → answered k 0 due ≡ answered number 0 due
+    shared k e = ap (λ (n : ℕ). answered n 0 due) (sym e)

@@ -10,12 +10,12 @@ use native.Mathlib.Omega.{arith}
 use lib.Dec.{leb, ltb}
 use lib.ListN.{length}
 use lib.IntN.{ℤ, pos}
-use borrow.Author.Tests.{lt-leb, le-ltb}
+use borrow.Author.Tests.{lt-leb}
 use Rattle.numbers.specs.Limits.{owners, most_cents}
 use Rattle.numbers.specs.Lists.{total, list_below}
 use Rattle.numbers.specs.Refusals.{first_refusal}
 use Rattle.numbers.specs.Signs.{positive, negative}
-use Rattle.numbers.proofs.Counts.{length_list_below, list_below_ext}
+use Rattle.numbers.proofs.Counts.{list_below_ext}
 use Rattle.numbers.proofs.Refusals.{refusal_none, refusal_next, refusal_rest, answer_accepted}
 use Rattle.calendar.specs.Almanac.{is_outside, is_among}
 use Rattle.calendar.specs.Year.{hours_in_year, months_in_year, month_ends, is_month_end, month_of}
@@ -23,17 +23,16 @@ use Rattle.calendar.proofs.MonthEnds.{month_open, month_ends_lem, month_goes_on,
 use Rattle.rights.proofs.Faults.{empty_length, empty_faults, no_faults}
 use Rattle.target.specs.Target.{targets, lent_rows}
 use Rattle.target.proofs.Answer.{lent_within, lent_accepted, target_at, no_rights}
-use Rattle.settlement.specs.declared.Book.{Book}
 use Rattle.settlement.specs.declared.Event.{Event}
 use Rattle.settlement.specs.declared.Event.TheVariants.{Hour, MonthEnd, YearEnd}
-use Rattle.settlement.specs.Book.{fresh, all_shortfalls}
-use Rattle.settlement.specs.Events.{Call, hour_call, month_end_call, year_end_call, next_targets, target_of, hour_wants, hour_charges, wants, fund, paid, unpaid_of, hour_book, book_after, is_out_of_turn, is_due, is_wild_amount, input_rows, size_rows, own_rows, refusal}
+use Rattle.settlement.specs.Book.{Book, fresh, all_shortfalls}
+use Rattle.settlement.specs.Events.{Call, hour_call, month_end_call, year_end_call, next_targets, target_of, hour_wants, hour_charges, wants, fund, paid, unpaid_of, book_after, is_out_of_turn, is_due, is_wild_amount, input_rows, size_rows, own_rows, refusal}
 use Rattle.settlement.specs.Ledger.{Asked, book_at, ledger_of}
 use Rattle.settlement.specs.WholeYear.{YearInput, IsLegal, hour_asked, month_asked, year_asked, calls_to, year_calls, AllAccepted, IsWholeYear}
 use Rattle.settlement.proofs.Sane.{Sane}
 use Rattle.settlement.proofs.Shares.{IsLong, wants_long}
-use Rattle.settlement.proofs.Paying.{unpaid_small, added_total}
-use Rattle.settlement.proofs.SharingOut.{all_within}
+use Rattle.settlement.proofs.Paying.{unpaid_small}
+use Rattle.settlement.proofs.SharingOut.{by_carry, all_within}
 use Rattle.settlement.proofs.Refusing.{own_size}
 use Rattle.settlement.proofs.Kept.{Kept}
 use Rattle.settlement.proofs.ClaimHolds.{kept_all}
@@ -64,19 +63,19 @@ module _ (prices : List ℤ) (collected : ℤ) (book : Book) (sane : Sane book) 
   call = hour_call [] prices collected
 
   -- nothing is wanted, so nothing is added to the shortfalls
-  same_shortfalls : ltb most_cents (all_shortfalls (hour_book book (fund call book) (wants call book))) ≡ false
-  unfolding unpaid_of wants
+  same_shortfalls : all_shortfalls book + total (unpaid_of (wants call book) (paid call book)) ≤ most_cents
+  unfolding wants
   same_shortfalls =
       let all = wants_long call book long in
       let none = no_wants book.year prices book.hours in
       let small = unpaid_small (wants call book) (paid call book) all in
-      let sum = added_total book.monthshort (unpaid_of (wants call book) (paid call book)) long.month (length_list_below _ owners) in
-      le-ltb most_cents _ (omega (arith, sane.short_most))
+      omega (arith, sane.short_most)
 
   fits : first_refusal (size_rows book (fund call book) (wants call book) (hour_charges (next_targets [] prices book))) ≡ 0
   unfolding wants
   fits =
-      all_within book (fund call book) (wants call book) (hour_charges (next_targets [] prices book))
+      ap first_refusal (by_carry book (fund call book) (wants call book) (hour_charges (next_targets [] prices book)) long.month)
+      ∙ all_within (all_shortfalls book) (fund call book) (wants call book) (hour_charges (next_targets [] prices book))
       (omega (arith, no_wants book.year prices book.hours)) (omega (arith, no_charges book.year prices book.hours)) same_shortfalls
 
   clean : is_wild_amount collected ≡ false → first_refusal (lent_rows [] prices) ≡ 0 → first_refusal (input_rows book.year [] prices collected) ≡ 0

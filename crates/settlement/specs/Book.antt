@@ -1,12 +1,23 @@
--- The book: what it holds, and when it is spoiled.
+-- The book of the rules: what it holds, and when it is spoiled. The library keeps it laid out by owner (specs/ByOwner.antt).
 -- Assumes nothing.
-use Rattle.std.specs.Prelude.{ℕ, zero, suc, ◌+◌, Bool, false, not, ◌&&◌, ◌||◌, [], ◌∷◌, leb, ltb, eqb, get_or, replicate, ℤ, pos, neg_ℤ, ◌+ℤ◌, ◌*ℤ◌, int_lt}
+use Rattle.std.specs.Prelude.{ℕ, zero, suc, ◌+◌, Bool, false, not, ◌&&◌, ◌||◌, List, [], ◌∷◌, leb, ltb, eqb, get_or, replicate, ℤ, pos, neg_ℤ, ◌+ℤ◌, ◌*ℤ◌, int_lt}
 use Rattle.numbers.specs.Limits.{owners, most_cents}
 use Rattle.numbers.specs.Lists.{total}
 use Rattle.numbers.specs.Refusals.{◌if◌, first_refusal, answer_by}
 use Rattle.calendar.specs.Almanac.{is_outside}
 use Rattle.calendar.specs.Year.{hours_in_year, months_in_year, month_end}
-use Rattle.settlement.specs.declared.Book.{Book}
+
+-- "A book has the hours settled, the months closed, an ended mark, a month and a year shortfall for each owner, a month surplus and a year
+-- surplus", each surplus now "a signed balance" (Wish 6), and its year (Wish 7)
+pub record Book : Type 0 where
+  pub year : ℕ
+  pub hours : ℕ
+  pub months : ℕ
+  pub ended : Bool
+  pub monthshort : List ℕ
+  pub yearshort : List ℕ
+  pub monthbalance : ℤ
+  pub yearbalance : ℤ
 
 -- "all 0 when fresh", and of its year: "A book opens with its year and keeps it"
 unfoldable pub fresh : ℕ → Book

@@ -12,12 +12,10 @@ use Rattle.rights.specs.Faults.{fault_rows, faulty_record}
 use Rattle.split.specs.declared.Limits.{Limits}
 use Rattle.split.specs.Split.{limits_of, payments, left}
 use Rattle.target.specs.Target.{is_wrong_lines, lent_rows, targets}
-use Rattle.settlement.specs.declared.Book.{Book}
 use Rattle.settlement.specs.declared.Event.{Event}
 use Rattle.settlement.specs.declared.Event.TheVariants.{Hour, MonthEnd, YearEnd}
 use Rattle.settlement.specs.declared.Funding.{Funding}
-use Rattle.settlement.specs.declared.Settled.{Settled as Given}
-use Rattle.settlement.specs.Book.{least_collected, most_collected, all_shortfalls, is_spoiled}
+use Rattle.settlement.specs.Book.{Book, least_collected, most_collected, all_shortfalls, is_spoiled}
 
 -- a call: an hour with its rights, prices and the amount collected; a month end; a year end
 pub data Call : Type 0 where
@@ -205,14 +203,14 @@ unfoldable pub input_rows : ℕ → List ℕ → List ℤ → ℤ → List Row
 input_rows year file prices collected =
     lent_rows file prices ++ ((6 if is_wild_amount collected) ∷ fault_rows year (length prices) file)
 
--- the rows of an hour's size, by its F, wants and charges: 9, "positive targets, or charges, above 4,000,000,000 in total"; 10, "all
--- shortfalls after the hour would pass 4,000,000,000"
+-- 9, "positive targets, or charges, above 4,000,000,000 in total"; 10, "all shortfalls after the hour would pass 4,000,000,000"
+abbrev pub sum_rows : ℕ → ℕ → ℕ → List Row
+sum_rows wants charges shortfalls =
+    (9 if ltb most_cents wants) ∷ (9 if ltb most_cents charges) ∷ (10 if ltb most_cents shortfalls) ∷ []
+
+-- the rows of an hour's size, by its F, wants and charges
 unfoldable pub size_rows : Book → ℤ → List ℕ → ℕ → List Row
-size_rows book fund wants charges =
-    (9 if ltb most_cents (total wants))
-    ∷ (9 if ltb most_cents charges)
-    ∷ (10 if ltb most_cents (all_shortfalls (hour_book book fund wants)))
-    ∷ []
+size_rows book fund wants charges = sum_rows (total wants) charges (all_shortfalls (hour_book book fund wants))
 
 -- the rows that an event has beside those of every event: an hour alone has some
 unfoldable pub own_rows : Call → Book → List Row
@@ -248,9 +246,6 @@ abbrev pub result_of : Result Funding Refusal → Book → Settled
 result_of (Ok funding) book = record { refusal = 0; faulty = 0; fund = funding.fund; demand = funding.demand; book = book }
 result_of (Err refusal) book =
     record { refusal = number_in refusal; faulty = record_in refusal; fund = pos 0; demand = 0; book = book }
-
-abbrev pub in_numbers : Given → Settled
-in_numbers given = result_of given.outcome given.book
 
 -- "the refusal number (0 if accepted), a record number, F, D and the book; when refused, the book is the one given, F and D are 0, and the
 -- record number is 0 except in 7 and 8"

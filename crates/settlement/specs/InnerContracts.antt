@@ -1,15 +1,12 @@
--- For the contracts of inner functions alone, no part of what an event promises: what a fund pays out to all owners, and an hour shared
--- out from its targets.
+-- For the contracts of inner functions alone, no part of what an event promises: what a fund pays out to all owners, and what it refuses.
 -- Assumes nothing.
-use Rattle.std.specs.Prelude.{ℕ, Bool, false, List, ℤ, Result, Ok, Err, ltb}
+use Rattle.std.specs.Prelude.{ℕ, ◌+◌, Bool, false, List, ℤ, Result, Ok, Err, ltb}
 use Rattle.numbers.specs.Lists.{total}
 use Rattle.numbers.specs.declared.refusal.Refusal.{Refusal}
-use Rattle.numbers.specs.Refusals.{number_in}
+use Rattle.numbers.specs.Refusals.{Row, number_in}
 use Rattle.settlement.specs.declared.Funding.{Funding}
-use Rattle.settlement.specs.declared.Book.{Book}
 use Rattle.settlement.specs.declared.payment.Paid.{Paid}
-use Rattle.settlement.specs.declared.payment.Shares.{Shares}
-use Rattle.settlement.specs.Events.{hour_wants, hour_fund, payout, unpaid_of, hour_book}
+use Rattle.settlement.specs.Events.{payout, unpaid_of, sum_rows}
 
 -- F and D of a fund and wants
 abbrev pub funding_of : ℤ → List ℕ → Funding
@@ -25,13 +22,9 @@ paid_from fund wants =
       unpaid = unpaid_of wants (payout fund wants).payments;
     }
 
--- an accepted hour's shares, from the amount collected and the targets
-abbrev pub shares_of : Book → ℤ → List ℤ → Shares
-shares_of book collected targets =
-    record {
-      paid = paid_from (hour_fund collected targets) (hour_wants targets);
-      monthshort = (hour_book book (hour_fund collected targets) (hour_wants targets)).monthshort;
-    }
+-- the rows of an hour's size, where all shortfalls before it come to the carry
+abbrev pub carry_rows : ℕ → ℤ → List ℕ → ℕ → List Row
+carry_rows carry fund wants charges = sum_rows (total wants) charges (carry + total (paid_from fund wants).unpaid)
 
 -- a target call is refused by a number below 6
 abbrev pub is_before_amount : Result (Unit {0}) Refusal → Bool

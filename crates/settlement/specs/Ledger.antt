@@ -6,8 +6,7 @@ use Rattle.numbers.specs.Lists.{total, list_below}
 use Rattle.numbers.specs.Refusals.{answer_by}
 use Rattle.numbers.specs.Signs.{positive, negative}
 use Rattle.target.specs.Target.{target}
-use Rattle.settlement.specs.declared.Book.{Book}
-use Rattle.settlement.specs.Book.{fresh}
+use Rattle.settlement.specs.Book.{Book, fresh}
 use Rattle.settlement.specs.Events.{Settled, Call, hour_call, month_end_call, year_end_call, settled, lines_after, Answered}
 
 -- an entry: a call, the lines lent with it, its result, and the lines after it

@@ -1,9 +1,11 @@
 pub mod Book
+pub mod ByOwner
 pub mod Claim
 pub mod Events
 pub mod Ends
 pub mod InnerContracts
 pub mod Ledger
+pub mod ListsByOwner
 pub mod Opening
 pub mod OrdinaryYear
 pub mod Progress

@@ -4,7 +4,7 @@ use Rattle.std.specs.Prelude.{ℕ, ◌+◌, ◌≤◌, ◌≡◌, true, false, c
 use Rattle.numbers.specs.Limits.{owners}
 use Rattle.numbers.specs.Refusals.{◌if◌, first_refusal}
 use Rattle.target.specs.Target.{is_wrong_lines}
-use Rattle.settlement.specs.declared.Book.{Book}
+use Rattle.settlement.specs.Book.{Book}
 use Rattle.settlement.specs.declared.Event.TheVariants.{Hour, MonthEnd, YearEnd}
 use Rattle.settlement.specs.Events.{Call, hour_call, month_end_call, year_end_call, is_due, own_rows, refusal}
 

@@ -1,12 +1,37 @@
-// The cells of all owners: what stays unpaid, what is added, and when they hold too much. The first two have one line each: one function
-// that is given the operation would be no plainer, and what keeps a difference inside 64 bits is another fact than what keeps a sum there.
-ghost use Rattle.std.specs.Prelude.{ℕ, ◌+◌, ◌^◌, ◌<◌, ◌≤◌, ◌≡◌, get_or, ltb};
-ghost use Rattle.numbers.specs.Limits.{most_cents};
-ghost use Rattle.numbers.specs.Lists.{total};
+// The cells of all owners: read off, laid out by owner, what stays unpaid and what is added.
+ghost use Rattle.std.specs.Prelude.{ℕ, ◌+◌, ◌-◌, ◌^◌, ◌<◌, ◌≤◌, ◌≡◌, get_or};
+ghost use Rattle.settlement.specs.ByOwner.{by_owner, cell_at, cell_count, cells_from};
 ghost use Rattle.settlement.specs.Events.{added_to, unpaid_of};
 
+use crate::CELLS;
 use numbers::OWNERS;
 use std::array;
+
+// Every second cell from a place on: the month's from 0, the year's from 1.
+pub(crate) fn cells_from(shortfalls: &[u64; CELLS], start: usize) -> [u64; OWNERS]
+    requires { start < 2 }
+    ensures { result ≡ cells_from shortfalls.now start }
+{
+    array::from_fn(|owner| shortfalls[2 * owner + start])
+}
+
+// Each owner's month cell and, in the next place, its year cell.
+pub(crate) fn by_owner(month: &[u64; OWNERS], year: &[u64; OWNERS]) -> [u64; CELLS]
+    ensures { result ≡ by_owner month.now year.now }
+{
+    array::from_fn(|place| cell_at(month, year, place))
+}
+
+// An even place is a month cell's, the next one the year cell's of the same owner.
+fn cell_at(month: &[u64; OWNERS], year: &[u64; OWNERS], place: usize) -> u64
+    requires { place < cell_count }
+    ensures { result ≡ cell_at month.now year.now place }
+{
+    if place % 2 == 0 {
+        return month[place / 2];
+    }
+    year[place / 2]
+}
 
 // What is unpaid of each want.
 pub(crate) fn unpaid_of(wants: &[u64; OWNERS], payments: &[u64; OWNERS]) -> [u64; OWNERS]
@@ -16,19 +41,15 @@ pub(crate) fn unpaid_of(wants: &[u64; OWNERS], payments: &[u64; OWNERS]) -> [u64
     array::from_fn(|owner| wants[owner] - payments[owner])
 }
 
-// The cells with what is unpaid added to each.
-pub(crate) fn added(cells: &[u64; OWNERS], unpaid: &[u64; OWNERS]) -> [u64; OWNERS]
-    requires { (i : ℕ) → get_or cells.now i 0 + get_or unpaid.now i 0 < 2 ^ 64 }
-    ensures { result ≡ added_to cells.now unpaid.now }
+// Adds what is unpaid to every second cell from a place on, in place: tried by way of the cells read off and laid out again, an hour with no
+// rights took 15 in 100 more instructions than with two arrays.
+pub(crate) fn add(shortfalls: &mut [u64; CELLS], start: usize, unpaid: &[u64; OWNERS])
+    requires one_of_two { start < 2 }
+    requires room { (i : ℕ) → get_or (cells_from shortfalls.old start) i 0 + get_or unpaid.now i 0 < 2 ^ 64 }
+    ensures added { cells_from shortfalls.new start ≡ added_to (cells_from shortfalls.old start) unpaid.now }
+    ensures others_stay { cells_from shortfalls.new (1 - start) ≡ cells_from shortfalls.old (1 - start) }
 {
-    array::from_fn(|owner| cells[owner] + unpaid[owner])
-}
-
-// Whether month and year cells are together above the limit. They are any, so no sum is made that could wrap.
-pub(crate) fn is_carry_full(month: &[u64; OWNERS], year: &[u64; OWNERS]) -> bool
-    ensures { result ≡ ltb most_cents (total month.now + total year.now) }
-{
-    let cap = numbers::MOST_CENTS + 1;
-    let carry = numbers::capped_total(cap, 0, month);
-    numbers::capped_total(cap, carry, year) == cap
+    for owner in 0..OWNERS {
+        shortfalls[2 * owner + start] += unpaid[owner];
+    }
 }

@@ -5,7 +5,8 @@ ghost use Rattle.calendar.specs.Almanac.{is_outside};
 ghost use Rattle.calendar.specs.Year.{hours_in_year};
 ghost use Rattle.rights.specs.Faults.{faulty_record};
 ghost use Rattle.target.specs.Target.{targets};
-ghost use Rattle.settlement.specs.Events.{hour_call, input_rows, is_wild_amount, result_of, Answered};
+ghost use Rattle.settlement.specs.ByOwner.{AnsweredByOwner};
+ghost use Rattle.settlement.specs.Events.{hour_call, input_rows, is_wild_amount};
 ghost use Rattle.settlement.specs.InnerContracts.{is_before_amount};
 ghost use Rattle.settlement.specs.Ends.{end_call};
 
@@ -23,34 +24,31 @@ impl Book {
         collected: i64,
         lines: &mut [i64],
     ) -> Result<Funding, Refusal>
-        ensures { Answered (hour_call rights.now prices.now collected) self.old lines.old (result_of result self.new) lines.new }
+        ensures { AnsweredByOwner (hour_call rights.now prices.now collected) self.old lines.old result self.new lines.new }
     {
-        refusals::of_event(self, Event::Hour, lines.len())?;
+        let carry = refusals::of_event(self, Event::Hour, lines.len())?;
         let targets = hour_targets(self.year, rights, prices, self.hours, collected)?;
-        let shares = payment::share_out(self, collected, &targets)?;
-        lines.copy_from_slice(&lines::of_hour(&targets, &shares.paid.payments));
-        self.after_hour(shares.monthshort, shares.paid.left);
-        Ok(shares.paid.funding)
+        let paid = payment::share_out(carry, collected, &targets)?;
+        lines.copy_from_slice(&lines::of_hour(&targets, &paid.payments));
+        self.after_hour(&paid.unpaid, paid.left);
+        Ok(paid.funding)
     }
 
     // Pays the shortfalls of a month or of the year from its balance.
     pub(crate) fn pay_short(&mut self, end: End, lines: &mut [i64]) -> Result<Funding, Refusal>
-        ensures { Answered (end_call end) self.old lines.old (result_of result self.new) lines.new }
+        ensures { AnsweredByOwner (end_call end) self.old lines.old result self.new lines.new }
     {
         refusals::of_event(self, end.into(), lines.len())?;
         // Two matches on the end: a month and a year have other cells to pay from and to write, so that closures would be no plainer.
         let (fund, wants) = match end {
-            End::Month => (self.monthbalance, self.monthshort),
-            End::Year => (self.yearbalance, self.yearshort),
+            End::Month => (self.monthbalance, cells::cells_from(&self.shortfalls, 0)),
+            End::Year => (self.yearbalance, cells::cells_from(&self.shortfalls, 1)),
         };
         let paid = payment::pay(fund, &wants);
         lines.copy_from_slice(&lines::of_payments(&paid.payments));
         match end {
-            End::Month => {
-                let cells = cells::added(&self.yearshort, &paid.unpaid);
-                self.after_month(cells, paid.left);
-            }
-            End::Year => self.after_year(paid.unpaid, paid.left),
+            End::Month => self.after_month(&paid.unpaid, paid.left),
+            End::Year => self.after_year(&paid.unpaid, paid.left),
         }
         Ok(paid.funding)
     }

@@ -4,8 +4,9 @@
 
 ghost use Rattle.std.specs.Prelude.{◌≡◌};
 ghost use Rattle.settlement.specs.Book.{fresh as freshBook};
+ghost use Rattle.settlement.specs.ByOwner.{laid_out, read_off, AnsweredByOwner};
 ghost use Rattle.settlement.specs.Opening.{book_opening};
-ghost use Rattle.settlement.specs.Events.{hour_call, month_end_call, year_end_call, in_numbers, is_due, Answered};
+ghost use Rattle.settlement.specs.Events.{hour_call, month_end_call, year_end_call, is_due};
 ghost use Rattle.settlement.specs.Ends.{end_call, event_at};
 
 use numbers::{OWNERS, Refusal};
@@ -23,15 +24,18 @@ pub(crate) const LEAST_COLLECTED: i64 = -4_000_000_000;
 
 pub(crate) const MOST_COLLECTED: i64 = 4_000_000_000_000;
 
-// The year, what is settled and what is open. Amounts are cents; a caller may hand over any book.
+// The cells of all owners, two for each.
+pub const CELLS: usize = 2 * OWNERS;
+
+// The year, what is settled and what is open. Amounts are cents; a caller may hand over any book. The shortfalls are laid out by owner: owner i's
+// month shortfall is the cell 2 i, its year shortfall the next one.
 #[derive(Clone, Copy)]
 pub struct Book {
     pub year: u64,
     pub hours: u64,
     pub months: u64,
     pub ended: bool,
-    pub monthshort: [u64; OWNERS],
-    pub yearshort: [u64; OWNERS],
+    pub shortfalls: [u64; CELLS],
     pub monthbalance: i64,
     pub yearbalance: i64,
 }
@@ -104,15 +108,14 @@ impl Book {
     // The book before the first hour, of any number as a year.
     #[tactic(auto, unfolding(crate::specs::Book::fresh))]
     fn fresh(year: u64) -> Book
-        ensures { result ≡ freshBook year }
+        ensures { result ≡ laid_out (freshBook year) }
     {
         Book {
             year,
             hours: 0,
             months: 0,
             ended: false,
-            monthshort: [0; OWNERS],
-            yearshort: [0; OWNERS],
+            shortfalls: [0; CELLS],
             monthbalance: 0,
             yearbalance: 0,
         }
@@ -121,7 +124,7 @@ impl Book {
     // Whether an event is due: the book is not ended, and it is the event's turn.
     #[tactic(auto, unfolding(crate::specs::Events::is_due))]
     pub fn is_due(self, event: Event) -> bool
-        ensures { result ≡ is_due event self }
+        ensures { result ≡ is_due event (read_off self) }
     {
         !(self.ended | refusals::is_out_of_turn(&self, event))
     }
@@ -134,7 +137,7 @@ impl Book {
         collected: i64,
         lines: &mut [i64],
     ) -> Settled
-        ensures { Answered (hour_call rights.now prices.now collected) self lines.old (in_numbers result) lines.new }
+        ensures { AnsweredByOwner (hour_call rights.now prices.now collected) self lines.old result.outcome result.book lines.new }
     {
         let outcome = self.settle_hour(rights, prices, collected, lines);
         Settled {
@@ -145,21 +148,21 @@ impl Book {
 
     // Pays the month's shortfalls from the month's balance; what is unpaid and what is left go to the year.
     pub fn month_end(self, lines: &mut [i64]) -> Settled
-        ensures { Answered month_end_call self lines.old (in_numbers result) lines.new }
+        ensures { AnsweredByOwner month_end_call self lines.old result.outcome result.book lines.new }
     {
         self.close(End::Month, lines)
     }
 
     // Pays the year's shortfalls from the year's balance and ends the book.
     pub fn year_end(self, lines: &mut [i64]) -> Settled
-        ensures { Answered year_end_call self lines.old (in_numbers result) lines.new }
+        ensures { AnsweredByOwner year_end_call self lines.old result.outcome result.book lines.new }
     {
         self.close(End::Year, lines)
     }
 
     // The month end or the year end. It ends as `hour` does: one function that is given what settles would be no plainer.
     pub fn close(mut self, end: End, lines: &mut [i64]) -> Settled
-        ensures { Answered (end_call end) self lines.old (in_numbers result) lines.new }
+        ensures { AnsweredByOwner (end_call end) self lines.old result.outcome result.book lines.new }
     {
         let outcome = self.pay_short(end, lines);
         Settled {

@@ -1,5 +1,5 @@
 // From 64 targets to wants and charges, and from payments to lines. That payments are small is asked by three functions: tried as a ghost
-// field of `Paid`, a record of specs then holds the proof too, so `paid_from` and `shares_of` would need it for every refused hour as well.
+// field of `Paid`, a record of specs then holds the proof too, so `paid_from` would need it for every refused hour as well.
 ghost use Rattle.std.specs.Prelude.{ℕ, ◌+◌, ◌≤◌, min, ◌≡◌, get_or};
 ghost use Rattle.numbers.specs.Limits.{most_cents};
 ghost use Rattle.settlement.specs.Events.{hour_charges, hour_line, hour_lines, hour_wants, payment_lines};

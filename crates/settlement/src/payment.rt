@@ -1,13 +1,12 @@
-// What a fund pays out to all owners, and what an hour makes of it.
-ghost use Rattle.std.specs.Prelude.{◌≤◌, ◌≡◌, false, replicate};
+// What a fund pays out to all owners.
+ghost use Rattle.std.specs.Prelude.{◌≤◌, ◌≡◌, false, replicate, pos, ◌+ℤ◌, ◌-ℤ◌, ◌≤ℤ◌};
 ghost use Rattle.numbers.specs.Limits.{owners, most_cents};
 ghost use Rattle.numbers.specs.Lists.{total};
 ghost use Rattle.numbers.specs.Refusals.{answered, first_refusal};
-ghost use Rattle.settlement.specs.Book.{all_shortfalls};
-ghost use Rattle.settlement.specs.Events.{hour_charges, hour_fund, hour_wants, is_wild_amount, payout, size_rows};
-ghost use Rattle.settlement.specs.InnerContracts.{paid_from, shares_of};
+ghost use Rattle.settlement.specs.Events.{hour_charges, hour_fund, hour_wants, is_wild_amount, payout};
+ghost use Rattle.settlement.specs.InnerContracts.{carry_rows, paid_from};
 
-use crate::{Book, Funding, cells, lines};
+use crate::{Funding, cells, lines};
 use numbers::{OWNERS, Refusal};
 use split::Limits;
 
@@ -26,21 +25,15 @@ pub(crate) struct Paid {
     pub(crate) unpaid: [u64; OWNERS],
 }
 
-// What an hour pays, and the month's cells after it.
-#[derive(Clone, Copy)]
-pub(crate) struct Shares {
-    pub(crate) paid: Paid,
-    pub(crate) monthshort: [u64; OWNERS],
-}
-
-// Pays an hour's positive targets from its fund. Refuses an hour that is too large, or that would leave too much unpaid.
+// Pays an hour's positive targets from its fund, where all shortfalls before it come to the carry. Refuses an hour that is too large, or that
+// would leave too much unpaid.
 pub(crate) fn share_out(
-    book: &Book,
+    carry: u64,
     collected: i64,
     targets: &[i64; OWNERS],
-) -> Result<Shares, Refusal>
-    requires { (all_shortfalls book.now ≤ most_cents) × (is_wild_amount collected ≡ false) }
-    ensures { result ≡ answered (first_refusal (size_rows book.now (hour_fund collected targets.now) (hour_wants targets.now) (hour_charges targets.now))) 0 (shares_of book.now collected targets.now) }
+) -> Result<Paid, Refusal>
+    requires { (carry ≤ most_cents) × (is_wild_amount collected ≡ false) }
+    ensures { result ≡ answered (first_refusal (carry_rows carry (hour_fund collected targets.now) (hour_wants targets.now) (hour_charges targets.now))) 0 (paid_from (hour_fund collected targets.now) (hour_wants targets.now)) }
 {
     let cap = numbers::MOST_CENTS + 1;
     let wants = lines::wants_of(targets);
@@ -52,11 +45,18 @@ pub(crate) fn share_out(
         return Err(Refusal::HourTooLarge);
     }
     let paid = pay(collected + charges.cast_signed(), &wants);
-    let monthshort = cells::added(&book.monthshort, &paid.unpaid);
-    if cells::is_carry_full(&monthshort, &book.yearshort) {
+    if carry + unpaid_in_all(paid.funding, paid.left) > numbers::MOST_CENTS {
         return Err(Refusal::CarryFull);
     }
-    Ok(Shares { paid, monthshort })
+    Ok(paid)
+}
+
+// What is unpaid of all wants: all but what of the fund is not left.
+fn unpaid_in_all(funding: Funding, left: i64) -> u64
+    requires { (pos 0 ≤ℤ (funding.fund -ℤ left)) × ((funding.fund -ℤ left) ≤ℤ pos funding.demand) × (funding.demand ≤ most_cents) }
+    ensures { pos result +ℤ (funding.fund -ℤ left) ≡ pos funding.demand }
+{
+    funding.demand - (funding.fund - left).cast_unsigned()
 }
 
 // Pays 64 wants that the hall's limits take.

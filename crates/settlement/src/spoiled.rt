@@ -1,22 +1,26 @@
 // Whether a book is spoiled. Its numbers are any, so no sum is made that could wrap.
-ghost use Rattle.std.specs.Prelude.{◌≤◌, ◌≡◌};
+ghost use Rattle.std.specs.Prelude.{◌+◌, ◌≤◌, ◌≡◌, min};
+ghost use Rattle.numbers.specs.Limits.{most_cents};
 ghost use Rattle.calendar.proofs.AlmanacLaws.{most_hours};
-ghost use Rattle.settlement.specs.Book.{last_end, off_month, out_of_step, is_out_of_bounds, is_spoiled};
+ghost use Rattle.settlement.specs.Book.{all_shortfalls, last_end, off_month, out_of_step, is_out_of_bounds, is_spoiled};
+ghost use Rattle.settlement.specs.ByOwner.{read_off};
 
-use crate::{Book, LEAST_COLLECTED, MOST_COLLECTED, cells};
+use crate::{Book, LEAST_COLLECTED, MOST_COLLECTED};
 
 // The most that one hour can bring: the largest amount collected and the most charges.
 const MOST_BROUGHT: i64 = MOST_COLLECTED + numbers::MOST_CENTS as i64;
 
-// Refusal 1: by the counts and the mark, by the shortfalls, or by the balances, whose sum is made only where each is within bounds.
+// Refusal 1: by the counts and the mark, by all shortfalls together, which are given, or by the balances, whose sum is made only where each is
+// within bounds.
 #[tactic(auto, unfolding(crate::specs::Book::is_spoiled))]
-pub(crate) fn is_spoiled(book: &Book) -> bool
-    ensures { result ≡ is_spoiled book.now }
+pub(crate) fn is_spoiled(book: &Book, carry: u64) -> bool
+    requires { carry ≡ min (all_shortfalls (read_off book.now)) (most_cents + 1) }
+    ensures { result ≡ is_spoiled (read_off book.now) }
 {
     if is_out_of_step(book.year, book.hours, book.months, book.ended) {
         return true;
     }
-    if cells::is_carry_full(&book.monthshort, &book.yearshort) {
+    if carry > numbers::MOST_CENTS {
         return true;
     }
     if is_out_of_bounds(book.hours, book.monthbalance) {

@@ -12,9 +12,12 @@ use Rattle.numbers.specs.Limits.{owners}
 use Rattle.numbers.specs.declared.refusal.Refusal.{Refusal}
 use Rattle.numbers.specs.Refusals.{answer_by}
 use Rattle.numbers.proofs.Refusals.{number_some}
-use Rattle.settlement.specs.declared.Book.{Book}
+use Rattle.settlement.specs.Book.{Book}
+use Rattle.settlement.specs.ByOwner.{read_off}
 use Rattle.settlement.specs.declared.Funding.{Funding}
 use Rattle.settlement.specs.Events.{result_of, Call, hour_call, month_end_call, year_end_call, event_of, is_due, refusal, record_of, lines, book_after, Answered}
+use Rattle.settlement.proofs.ByOwner.{read_long}
+use Rattle.settlement.proofs.Shares.{IsLong}
 use Rattle.settlement.proofs.Refusing.{gives_number, gives_record, gives_book_lem}
 use Rattle.statement_text.specs.Buffer.{written, end_after, text_after}
 use Rattle.statement_text.specs.InnerContracts.{Wrote}
@@ -27,6 +30,7 @@ use Rattle.settlement_run.specs.Run.{Part, goes_on, stops, and_then, tag_of, num
 use Rattle.settlement_run.specs.Calls.{standing, run_at}
 use Rattle.settlement_run.specs.InnerContracts.{ending, Appended, call_at, answered_part}
 use Rattle.settlement_run.proofs.Parts.{then_goes, then_stops}
+use Rattle.settlement_run.proofs.Standing.{read_at}
 
 -- with the room that a call asks for, its text is written
 pub wrote_with_room : (room : ℕ) (text before : List ℕ) (at : ℕ) (after : List ℕ) (end : ℕ) → at + room ≤ length before
@@ -58,18 +62,21 @@ appended_as same made =
     }
 
 -- a part's lines are written up to an end, and the run is told as a whole
-pub appended_told : (part : Part) (run : Run) {before after : List ℕ} {end : ℕ} {result : Run}
+pub appended_told : (part : Part) (run : Run) {before after : List ℕ} {end : ℕ} {result : Run} → IsLong part.book
     → Wrote (text_of part.printed) before run.end after end → end ≤ run.end + event_room owners
     → result ≡ run_at part run.full end → Appended part run before result after
-appended_told part run {before} {after} wrote short told =
+appended_told part run {before} {after} {end} long wrote short told =
     subst (λ (r : Run). Appended part run before r after) (sym told)
-    (record { full = refl; wrote = wrote; short = short; stands = refl })
+    (record { full = refl; wrote = wrote; short = short; stands = read_at part run.full end long })
 
 -- nothing is printed
-pub appended_nothing : (part : Part) (run : Run) (before : List ℕ) {result : Run} → part.printed ≡ []
+pub wrote_none : (part : Part) (before : List ℕ) (at : ℕ) → part.printed ≡ [] → Wrote (text_of part.printed) before at before at
+wrote_none part before at none = wrote_as (sym (ap text_of none ∙ text_none)) (wrote_nothing before at)
+
+pub appended_nothing : (part : Part) (run : Run) (before : List ℕ) {result : Run} → IsLong part.book → part.printed ≡ []
     → result ≡ run_at part run.full run.end → Appended part run before result before
-appended_nothing part run before none told =
-    appended_told part run (wrote_as (sym (ap text_of none ∙ text_none)) (wrote_nothing before run.end)) (omega arith) told
+appended_nothing part run before long none told =
+    appended_told part run long (wrote_none part before run.end none) (omega arith) told
 
 -- ---- an event
 
@@ -118,22 +125,24 @@ module _ (call : Call) (book after : Book) (lent cents : List ℤ) where
 pub appended_stopped : (run : Run) (next : Book → Part) (before : List ℕ) → (run.refusal ≡ 0 → ⊥)
     → Appended (and_then (standing run) next) run before run before
 appended_stopped run next before stopped =
-    rw (then_stops (standing run) next stopped) (appended_nothing (standing run) run before refl refl)
+    rw (then_stops (standing run) next stopped)
+    (record { full = refl; wrote = wrote_none (standing run) before run.end refl; short = omega arith; stands = refl })
 
 -- a run that goes on ends as the next part does
-pub same_next : (run : Run) (next : Book → Part) → run.refusal ≡ 0 → SameEnd (next run.book) (and_then (standing run) next)
+pub same_next : (run : Run) (next : Book → Part) → run.refusal ≡ 0 → SameEnd (next (read_off run.book)) (and_then (standing run) next)
 same_next run next goes =
     same_then (record { printed = refl; ends = refl }) (same_end (sym (then_goes (standing run) next goes)))
 
 module _ (call : Call) (run : Run) (before : List ℕ) (goes : run.refusal ≡ 0) where
-  pub not_due : is_due (event_of call) run.book ≡ false → {result : Run} → result ≡ run_at (goes_on [] [] run.book) run.full run.end
+  pub not_due : is_due (event_of call) (read_off run.book) ≡ false → {result : Run}
+      → result ≡ run_at (goes_on [] [] (read_off run.book)) run.full run.end
       → Appended (and_then (standing run) (if_due call)) run before result before
   unfolding if_due
   not_due later told =
-      appended_as (same_next run (if_due call) goes) (rw later (appended_nothing (goes_on [] [] run.book) run before refl told))
+      appended_as (same_next run (if_due call) goes) (rw later (appended_nothing (goes_on [] [] (read_off run.book)) run before (read_long run.book) refl told))
 
-  pub when_due : is_due (event_of call) run.book ≡ true → {result : Run} {after : List ℕ}
-      → Appended (event_part call run.book) run before result after
+  pub when_due : is_due (event_of call) (read_off run.book) ≡ true → {result : Run} {after : List ℕ}
+      → Appended (event_part call (read_off run.book)) run before result after
       → Appended (and_then (standing run) (if_due call)) run before result after
   unfolding if_due
   when_due now made = appended_as (same_next run (if_due call) goes) (rw now made)

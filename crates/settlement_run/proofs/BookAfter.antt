@@ -6,7 +6,7 @@ use mathlib.Core.Bool.{Bool, true, false, cond}
 use mathlib.Core.List.{List, []}
 use lib.ListN.{length}
 use Rattle.numbers.specs.Limits.{owners}
-use Rattle.settlement.specs.declared.Book.{Book}
+use Rattle.settlement.specs.Book.{Book}
 use Rattle.settlement.specs.Events.{Call, hour_call, month_end_call, year_end_call, event_of, is_due, refusal, book_after}
 use Rattle.hour_block.specs.Block.{amount_in, prices_in}
 use Rattle.settlement_run.specs.Run.{Part, block_refusal, goes_on, and_then, event_part, if_due, hour_part, step_part}

@@ -9,7 +9,7 @@ use native.Mathlib.Omega.{arith}
 use lib.ListN.{length}
 use Rattle.numbers.specs.Limits.{owners}
 use Rattle.calendar.specs.Year.{hours_in_year}
-use Rattle.settlement.specs.declared.Book.{Book}
+use Rattle.settlement.specs.Book.{Book}
 use Rattle.settlement.specs.Events.{Call, hour_call, month_end_call, year_end_call, event_of, is_due, refusal, book_after}
 use Rattle.settlement.proofs.Accepted.{hour_accepted}
 use Rattle.settlement.proofs.HoursAfter.{fresh_hours, fresh_year, keeps_year, hour_hours, month_hours, year_hours}

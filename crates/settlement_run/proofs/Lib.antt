@@ -10,6 +10,7 @@ pub mod PrintedFund
 pub mod PrintedLines
 pub mod PrintedSums
 pub mod RunLedger
+pub mod Standing
 pub mod Stepping
 pub mod WholeText
 pub mod Within

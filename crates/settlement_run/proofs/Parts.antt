@@ -9,7 +9,8 @@ use native.Mathlib.Omega.{arith}
 use lib.ListN.{length}
 use Rattle.numbers.specs.Refusals.{answer_by}
 use Rattle.numbers.proofs.Refusals.{answer_accepted, answer_refused}
-use Rattle.settlement.specs.declared.Book.{Book}
+use Rattle.settlement.specs.Book.{Book}
+use Rattle.settlement.specs.ByOwner.{read_off}
 use Rattle.settlement_run.specs.declared.Run.{Run}
 use Rattle.settlement_run.specs.Run.{Part, behind, and_then, step_part, opening, block_at, run_to}
 use Rattle.settlement_run.specs.Calls.{standing}
@@ -50,7 +51,7 @@ module _ (part : Part) (run : Run) (at : StandsAt part run) (next : Book → Par
   run_refusal : run.refusal ≡ part.refusal
   run_refusal = ap (λ (p : Part). p.refusal) at
 
-  run_goes : part.refusal ≡ 0 → and_then (standing run) next ≡ behind (standing run) (next run.book)
+  run_goes : part.refusal ≡ 0 → and_then (standing run) next ≡ behind (standing run) (next (read_off run.book))
   run_goes goes = then_goes (standing run) next (run_refusal ∙ goes)
 
   run_stops : (part.refusal ≡ 0 → ⊥) → and_then (standing run) next ≡ standing run

@@ -12,8 +12,7 @@ use borrow.Author.Differences.{ints}
 use Rattle.numbers.specs.Limits.{owners}
 use Rattle.numbers.specs.Lists.{total}
 use Rattle.numbers.proofs.Counts.{list_below_ext}
-use Rattle.settlement.specs.declared.Book.{Book}
-use Rattle.settlement.specs.Book.{open_shortfall, is_short, fund_left}
+use Rattle.settlement.specs.Book.{Book, open_shortfall, is_short, fund_left}
 use Rattle.settlement.specs.Ledger.{Entry, book_at, ledger_of, IsLedger, sum_over, balance_over, hour_count, positive_target, credit, charge, collection, of_all}
 use Rattle.settlement.specs.Claim.{Claim}
 use Rattle.settlement.proofs.ClaimHolds.{claim, kept_all}

@@ -7,7 +7,7 @@ use native.Mathlib.Omega.{arith}
 use Rattle.numbers.specs.Limits.{owners}
 use Rattle.numbers.specs.Refusals.{answer_by}
 use Rattle.numbers.proofs.Refusals.{answer_accepted}
-use Rattle.settlement.specs.declared.Book.{Book}
+use Rattle.settlement.specs.Book.{Book}
 use Rattle.settlement.specs.Events.{Answered}
 use Rattle.settlement.specs.Ledger.{Entry, book_at, IsLedger, sum_over, credit, charge}
 use Rattle.settlement.proofs.EntryParts.{over_next, refused_nothing}

@@ -16,8 +16,7 @@ use Rattle.numbers.proofs.Refusals.{answer_accepted, answer_refused}
 use Rattle.numbers.proofs.Counts.{total_suc}
 use Rattle.numbers.proofs.Signed.{sum_none, sum_next}
 use Rattle.target.specs.Target.{target}
-use Rattle.settlement.specs.declared.Book.{Book}
-use Rattle.settlement.specs.Book.{fresh}
+use Rattle.settlement.specs.Book.{Book, fresh}
 use Rattle.settlement.specs.Events.{Call, hour_call, month_end_call, year_end_call, event_of, is_due, refusal, record_of, lines, book_after}
 use Rattle.settlement.specs.Ledger.{Entry, Asked, book_at, entry_on, ledger_of, at_hour, hour_count, sum_over, balance_over, call_positive, positive_target, call_amount, collection}
 use Rattle.settlement.proofs.EntryParts.{Parts, over_next, balance_next, refused_nothing, accepted_parts}

@@ -8,7 +8,8 @@ use native.Mathlib.Omega.{arith}
 use lib.ListN.{length}
 use lib.Dec.{leb}
 use borrow.Author.Tests.{ltb-true, ltb-false, leb-true, leb-false, lt-ltb, le-ltb}
-use Rattle.settlement.specs.declared.Book.{Book}
+use Rattle.settlement.specs.Book.{Book}
+use Rattle.settlement.specs.ByOwner.{cell_count, read_off}
 use Rattle.settlement.specs.Events.{month_end_call, year_end_call}
 use Rattle.statement_text.specs.Buffer.{end_after}
 use Rattle.statement_text.specs.InnerContracts.{Wrote}
@@ -22,6 +23,7 @@ use Rattle.settlement_run.specs.Calls.{step_room, lacks_room, standing, run_at, 
 use Rattle.settlement_run.specs.InnerContracts.{StandsAt, Appended}
 use Rattle.settlement_run.proofs.Parts.{adds, stands_next}
 use Rattle.settlement_run.proofs.Appending.{SameEnd, appended_stopped, same_next}
+use Rattle.settlement_run.proofs.Standing.{put_back}
 
 -- ---- one part behind another
 
@@ -49,7 +51,7 @@ pub lacks_said : {has : Bool} (room bytes at : ℕ) → has ≡ leb (at + room) 
 lacks_said {has = true} room bytes at is = sym (le-ltb bytes (at + room) (leb-true _ _ (sym is)))
 lacks_said {has = false} room bytes at is = sym (lt-ltb bytes (at + room) (leb-false _ _ (sym is)))
 
-module _ (file block : List ℕ) (run : Run) (before : List ℕ) where
+module _ (file block : List ℕ) (run : Run) (before : List ℕ) (all : length run.book.shortfalls ≡ cell_count) where
   abbrev lacks : Bool
   lacks = lacks_room step_room (length before) run.end
 
@@ -57,58 +59,73 @@ module _ (file block : List ℕ) (run : Run) (before : List ℕ) where
   abbrev IsStepped : Run → List ℕ → Type 0
   IsStepped result after = (result ≡ stepped_run file block run before) × (after ≡ stepped_text file block run before)
 
+  -- the run, told of the room
+  abbrev told : Bool → Run
+  told full =
+      record {
+        full = full;
+        end = run.end;
+        refusal = run.refusal;
+        tag = run.tag;
+        number = run.number;
+        faulty = run.faulty;
+        book = run.book;
+      }
+
   -- a run with the end and the place of a step, by the room
-  as_stepped : (full : Bool) → lacks ≡ full → {result : Run} → result.full ≡ lacks
+  as_stepped : (full : Bool) → lacks ≡ full → {result : Run} → length result.book.shortfalls ≡ cell_count → result.full ≡ lacks
       → result.end ≡ end_after step_room (text_of (stepped file block run).printed) before run.end
       → StandsAt (cond full (standing run) (stepped file block run)) result → result ≡ stepped_run file block run before
-  as_stepped full is same ends stands =
+  as_stepped full is {result} cells same ends stands =
       let end = end_after step_room (text_of (stepped file block run).printed) before run.end in
-      (λ i. run_at (stands i) (same i) (ends i))
+      sym (put_back result cells)
+      ∙ (λ i. run_at (stands i) (same i) (ends i))
       ∙ ap (λ (t : Bool). run_at (cond t (standing run) (stepped file block run)) lacks end) (sym is)
 
   -- too little room
-  pub step_full : (full : Bool) → full ≡ lacks → full ≡ true → IsStepped (run_at (standing run) full run.end) before
+  pub step_full : (full : Bool) → full ≡ lacks → full ≡ true → IsStepped (told full) before
   step_full full is short =
       let same = without_room step_room (text_of (stepped file block run).printed) before run.end (ltb-true (length before) _ (sym is ∙ short)) in
-      (as_stepped true (sym is ∙ short) is same.0 refl, same.1)
+      (as_stepped true (sym is ∙ short) all is same.0 refl, same.1)
 
   -- with room: the text of what comes of the block is written, and the run stands behind it
   module _ (full : Bool) (is : full ≡ lacks) (room : full ≡ false) where
     pub enough : run.end + step_room ≤ length before
     enough = ltb-false (length before) (run.end + step_room) (sym is ∙ room)
 
-    with_text : (result : Run) (after : List ℕ) → result.full ≡ full → Reached (stepped file block run) before run.end result after
+    with_text : (result : Run) (after : List ℕ) → length result.book.shortfalls ≡ cell_count → result.full ≡ full → Reached (stepped file block run) before run.end result after
         → IsStepped result after
-    with_text result after same reached =
+    with_text result after cells same reached =
         let says = with_room step_room (text_of (stepped file block run).printed) before run.end after result.end enough reached.wrote in
-        (as_stepped false (sym is ∙ room) (same ∙ is) says.0 reached.stands, says.1)
+        (as_stepped false (sym is ∙ room) cells (same ∙ is) says.0 reached.stands, says.1)
 
     -- the run has stopped
-    pub step_stopped : (run.refusal ≡ 0 → ⊥) → IsStepped (run_at (standing run) full run.end) before
+    pub step_stopped : (run.refusal ≡ 0 → ⊥) → IsStepped (told full) before
     step_stopped stopped =
         let made = appended_stopped run (step_part file block) before stopped in
-        with_text (run_at (standing run) full run.end) before refl (record { wrote = made.wrote; stands = made.stands })
+        with_text (told full) before all refl (record { wrote = made.wrote; stands = made.stands })
 
     -- the hour, the month end and the year end, one behind another
     pub step_settled : run.refusal ≡ 0 → {hour month year : Run} {one two three : List ℕ}
-        → Appended (hour_part file block run.book) (run_at (standing run) full run.end) before hour one
+        → length year.book.shortfalls ≡ cell_count
+        → Appended (hour_part file block (read_off run.book)) (told full) before hour one
         → Appended (and_then (standing hour) (if_due month_end_call)) hour one month two
         → Appended (and_then (standing month) (if_due year_end_call)) month two year three → IsStepped year three
     unfolding step_part
-    step_settled goes {hour} {month} {year} {one} {two} {three} first second third =
-        with_text year three (third.full ∙ second.full ∙ first.full)
+    step_settled goes {hour} {month} {year} {one} {two} {three} cells first second third =
+        with_text year three cells (third.full ∙ second.full ∙ first.full)
         (record { wrote = wrote_as (ap text_of same.printed) years.wrote; stands = years.stands ∙ same.ends })
       where
-        hours : Reached (hour_part file block run.book) before run.end hour one
+        hours : Reached (hour_part file block (read_off run.book)) before run.end hour one
         hours = record { wrote = first.wrote; stands = first.stands }
 
-        months : Reached (and_then (hour_part file block run.book) (if_due month_end_call)) before run.end month two
-        months = reached_next (hour_part file block run.book) (if_due month_end_call) hours (omega (arith, enough, first.short)) second
+        months : Reached (and_then (hour_part file block (read_off run.book)) (if_due month_end_call)) before run.end month two
+        months = reached_next (hour_part file block (read_off run.book)) (if_due month_end_call) hours (omega (arith, enough, first.short)) second
 
-        years : Reached (step_part file block run.book) before run.end year three
+        years : Reached (step_part file block (read_off run.book)) before run.end year three
         years =
-            reached_next (and_then (hour_part file block run.book) (if_due month_end_call)) (if_due year_end_call) months
+            reached_next (and_then (hour_part file block (read_off run.book)) (if_due month_end_call)) (if_due year_end_call) months
             (omega (arith, enough, first.short, second.short)) third
 
-        same : SameEnd (step_part file block run.book) (stepped file block run)
+        same : SameEnd (step_part file block (read_off run.book)) (stepped file block run)
         same = same_next run (step_part file block) goes

@@ -8,6 +8,9 @@ use mathlib.Core.List.{List, [], ◌∷◌, ◌++◌, append_assoc, append-nil}
 use native.Mathlib.Omega.{arith}
 use lib.ListN.{length, take}
 use borrow.Author.Tests.{ltb-true, ltb-false}
+use Rattle.settlement.specs.ByOwner.{read_off}
+use Rattle.settlement.proofs.ByOwner.{read_long}
+use Rattle.settlement.proofs.Shares.{IsLong}
 use Rattle.statement_text.specs.Buffer.{written, text_after, end_after}
 use Rattle.statement_text.specs.Text.{text_of, line_room}
 use Rattle.statement_text.proofs.Pieces.{front}
@@ -18,6 +21,7 @@ use Rattle.settlement_run.specs.Run.{Part, and_then, step_part, opening, block_a
 use Rattle.settlement_run.specs.Calls.{step_room, begun, standing, stepped_run, stepped_text, last_text, closed}
 use Rattle.settlement_run.specs.InnerContracts.{ending, StandsAt}
 use Rattle.settlement_run.specs.Turns.{UnderWay, opened, stepped, waited, written_out, emptied, IsRead}
+use Rattle.settlement_run.proofs.Standing.{read_at, begun_stands, stepped_long}
 use Rattle.settlement_run.proofs.Within.{step_within}
 use Rattle.settlement_run.proofs.Parts.{adds, stands_next, run_next, stopped_from}
 
@@ -44,7 +48,7 @@ module _ (readable : Bool) (file input : List ℕ) where
 
   joined_opened : (buffer : List ℕ) → Joined readable file input 0 [] buffer (begun readable (length file))
   unfolding run_to opening
-  joined_opened buffer = record { text = sym text_none; stands = refl; within = omega arith }
+  joined_opened buffer = record { text = sym text_none; stands = begun_stands readable (length file); within = omega arith }
 
   module _ {n : ℕ} {out before : List ℕ} {run : Run} (joined : Joined readable file input n out before run) where
     abbrev further : Part
@@ -58,7 +62,13 @@ module _ (readable : Bool) (file input : List ℕ) where
 
     -- where the step stands, by the room
     stood : (full : Bool) → result.full ≡ full → standing result ≡ ending (cond full (standing run) further)
-    stood full is = ap (λ (t : Bool). ending (cond t (standing run) further)) is
+    stood full is =
+        read_at (cond result.full (standing run) further) result.full result.end (by_room result.full)
+        ∙ ap (λ (t : Bool). ending (cond t (standing run) further)) is
+      where
+        by_room : (t : Bool) → IsLong (cond t (standing run) further).book
+        by_room true = read_long run.book
+        by_room false = stepped_long file (block_at input n) run
 
     joined_stepped : result.full ≡ false → Joined readable file input (suc n) out after result
     joined_stepped room_left =
@@ -119,7 +129,7 @@ module _ (readable : Bool) (file input : List ℕ) where
         let enough : run.end + line_room ≤ length before = ltb-false (length before) (run.end + line_room) room_left in
         appended line_room (last_text run) out before run.end joined.within enough
         ∙ ap (λ (l : List ℕ). l ++ last_text run) joined.text
-        ∙ ap (λ (l : List ℕ). text_of (up_to n).printed ++ l) (sym (text_one (last_line run.refusal run.book)))
+        ∙ ap (λ (l : List ℕ). text_of (up_to n).printed ++ l) (sym (text_one (last_line run.refusal (read_off run.book))))
         ∙ ap (λ (p : Part). text_of (up_to n).printed ++ text_of (last_line p.refusal p.book ∷ [])) joined.stands
         ∙ sym (text_append (up_to n).printed (last_line (up_to n).refusal (up_to n).book ∷ []))
         ∙ ap (λ (p : Part). text_of (all_lines p)) (sym (whole_is read))

@@ -2,6 +2,7 @@
 -- Assumes nothing.
 use Rattle.std.specs.Prelude.{ℕ, ◌+◌, ◌*◌, Bool, false, cond, List, [], ltb, length, Option, is_some, unwrap_or}
 use Rattle.numbers.specs.Limits.{owners}
+use Rattle.settlement.specs.ByOwner.{laid_out, read_off}
 use Rattle.statement_text.specs.Buffer.{text_after, end_after}
 use Rattle.statement_text.specs.Text.{line_text, text_of, line_room, event_room}
 use Rattle.settlement_run.specs.declared.Run.{Run}
@@ -15,11 +16,11 @@ step_room = 3 * event_room owners
 abbrev pub lacks_room : ℕ → ℕ → ℕ → Bool
 lacks_room room bytes at = ltb bytes (at + room)
 
--- where a run stands, as a part of it that printed nothing
+-- where a run stands, as a part of it that printed nothing, with the book of the rules read off the run's, which is laid out by owner (Wish 11)
 abbrev pub standing : Run → Part
-standing run = stops [] run.refusal run.tag run.number run.faulty run.book
+standing run = stops [] run.refusal run.tag run.number run.faulty (read_off run.book)
 
--- the run that stands where a part ends, with what was found of the room and the end of its text
+-- the run that stands where a part ends, its book laid out by owner, with what was found of the room and the end of its text
 abbrev pub run_at : Part → Bool → ℕ → Run
 run_at part full end =
     record {
@@ -29,7 +30,7 @@ run_at part full end =
       tag = part.tag;
       number = part.number;
       faulty = part.faulty;
-      book = part.book;
+      book = laid_out part.book;
     }
 
 -- ---- before the first block
@@ -62,7 +63,7 @@ stepped_text file block run before = text_after step_room (text_of (stepped file
 
 -- the last line is appended, if there is room for it
 abbrev pub last_text : Run → List ℕ
-last_text run = line_text (last_line run.refusal run.book)
+last_text run = line_text (last_line run.refusal (read_off run.book))
 
 abbrev pub closed : Run → List ℕ → Run
 closed run before =

@@ -6,8 +6,7 @@ use Rattle.numbers.specs.Limits.{owners}
 use Rattle.numbers.specs.Refusals.{first_refusal, ◌if◌, answer_by}
 use Rattle.calendar.specs.Almanac.{is_outside}
 use Rattle.rights.specs.Layout.{most_bytes}
-use Rattle.settlement.specs.declared.Book.{Book}
-use Rattle.settlement.specs.Book.{fresh}
+use Rattle.settlement.specs.Book.{Book, fresh}
 use Rattle.settlement.specs.Events.{Call, hour_call, month_end_call, year_end_call, event_of, is_due, refusal, record_of, lines, book_after}
 use Rattle.settlement.specs.Ledger.{Asked}
 use Rattle.hour_block.specs.Block.{hour_bytes, amount_in, prices_in}

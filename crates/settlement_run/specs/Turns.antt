@@ -3,11 +3,20 @@
 use Rattle.std.specs.Prelude.{ℕ, suc, ◌≤◌, ◌≡◌, Bool, true, false, ◌⊎◌, List, [], ◌++◌, length, take}
 use Rattle.settlement_run.specs.declared.Run.{Run}
 use Rattle.settlement_run.specs.Run.{block_at, block_count}
-use Rattle.settlement_run.specs.Calls.{standing, run_at, begun, stepped_run, stepped_text}
+use Rattle.settlement_run.specs.Calls.{begun, stepped_run, stepped_text}
 
 -- the same run, with nothing left in the buffer
 abbrev pub emptied : Run → Run
-emptied run = run_at (standing run) run.full 0
+emptied run =
+    record {
+      full = run.full;
+      end = 0;
+      refusal = run.refusal;
+      tag = run.tag;
+      number = run.number;
+      faulty = run.faulty;
+      book = run.book;
+    }
 
 -- after so many blocks: what is written out, the buffer, and the run
 pub data UnderWay (readable : Bool) (file input : List ℕ) : ℕ → List ℕ → List ℕ → Run → Type 0 where

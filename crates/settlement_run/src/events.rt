@@ -2,6 +2,7 @@
 // That room is asked for by three functions: it is there before an event and no longer behind it, so that no field can hold it.
 ghost use Rattle.std.specs.Prelude.{◌+◌, ◌≤◌, ◌≡◌, [], length};
 ghost use Rattle.numbers.specs.Limits.{owners};
+ghost use Rattle.settlement.specs.ByOwner.{read_off};
 ghost use Rattle.settlement.specs.Ends.{end_call};
 ghost use Rattle.statement_text.specs.Text.{event_room};
 ghost use Rattle.settlement_run.specs.Run.{and_then, goes_on, hour_part, if_due, number_of, tag_of};
@@ -15,7 +16,7 @@ use settlement::{Book, End, Event, Settled};
 // The next hour, from its bytes.
 pub(crate) fn settle_hour(run: Run, rights: &[u8], block: &[u8], text: &mut [u8]) -> Run
     requires { run.end + event_room owners ≤ length text.old }
-    ensures { Appended (hour_part rights.now block.now run.book) run text.old result text.new }
+    ensures { Appended (hour_part rights.now block.now (read_off run.book)) run text.old result text.new }
 {
     if calendar::is_outside(run.book.year) {
         return stopped(run, Event::Hour, Refusal::NoSuchYear);
@@ -51,7 +52,7 @@ pub(crate) fn close_if_due(run: Run, end: End, text: &mut [u8]) -> Run
 // An accepted event's lines are appended and its book is taken; a refused event stops the run.
 fn print_event(mut run: Run, event: Event, settled: Settled, lines: &[i64], text: &mut [u8]) -> Run
     requires { (run.end + event_room owners ≤ length text.old) × (length lines.now ≡ owners) }
-    ensures { Appended (answered_part event run.book settled.outcome settled.book lines.now) run text.old result text.new }
+    ensures { Appended (answered_part event (read_off run.book) settled.outcome (read_off settled.book) lines.now) run text.old result text.new }
 {
     match settled.outcome {
         Ok(_) => {
@@ -65,8 +66,9 @@ fn print_event(mut run: Run, event: Event, settled: Settled, lines: &[i64], text
 }
 
 // The run with no refusal.
+#[tactic(auto, using(settlement::proofs::ByOwner::laid_back))]
 fn going_on(run: Run) -> Run
-    ensures { result ≡ run_at (goes_on [] [] run.book) run.full run.end }
+    ensures { result ≡ run_at (goes_on [] [] (read_off run.book)) run.full run.end }
 {
     Run {
         refusal: 0,
@@ -78,8 +80,9 @@ fn going_on(run: Run) -> Run
 }
 
 // The run that a refusal of this event stops.
+#[tactic(auto, using(settlement::proofs::ByOwner::laid_back))]
 fn stopped(run: Run, event: Event, refusal: Refusal) -> Run
-    ensures { result ≡ run_at (refused_part event run.book refusal) run.full run.end }
+    ensures { result ≡ run_at (refused_part event (read_off run.book) refusal) run.full run.end }
 {
     Run {
         refusal: refusal.number(),
@@ -104,7 +107,7 @@ fn tag_of(event: Event) -> u8
 
 // The hour or month number by the book before the event, 0 for the year.
 fn number_of(event: Event, book: &Book) -> u64
-    ensures { result ≡ number_of (call_at event) book.now }
+    ensures { result ≡ number_of (call_at event) (read_off book.now) }
 {
     match event {
         Event::Hour => book.hours,

@@ -84,7 +84,7 @@ pub fn step(mut run: Run, rights: &[u8], block: &[u8], text: &mut [u8]) -> Run
 }
 
 // The last line: both balances, with their sign, or the refusal that stopped the run.
-#[tactic(auto, using(crate::proofs::Stepping::lacks_said, numbers::proofs::Refusals::answer_refused), unfolding(crate::specs::Run::last_line))]
+#[tactic(auto, using(crate::proofs::Stepping::lacks_said, numbers::proofs::Refusals::answer_refused, settlement::proofs::ByOwner::laid_back), unfolding(crate::specs::Run::last_line))]
 pub fn closing(mut run: Run, text: &mut [u8]) -> Run
     ensures value { result ≡ closed run text.old }
     ensures text_after { text.new ≡ text_after line_room (last_text run) text.old run.end }

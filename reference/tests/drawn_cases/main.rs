@@ -17,6 +17,7 @@ mod library;
 
 mod amounts;
 mod balances;
+mod by_owner;
 mod calendar;
 mod call_lists;
 mod faulty_records;

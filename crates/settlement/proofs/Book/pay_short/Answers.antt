@@ -4,9 +4,11 @@ use Rattle.std.proofs.lemmas.Grind.{common_steps}
 use Rattle.std.proofs.lemmas.Int.{to_z-of_z}
 use Rattle.std.proofs.lemmas.Result.{err_from_is_err_and}
 use Rattle.settlement.specs.declared.payment.Paid.{Paid}
+use Rattle.settlement.specs.ByOwner.{laid_out, read_off}
 use Rattle.settlement.specs.Ends.{end_call}
 use Rattle.settlement.specs.Events.{wants, fund, demand, payment_lines, added_to, book_after_month, book_after_year, book_after}
 use Rattle.settlement.specs.InnerContracts.{paid_from}
+use Rattle.settlement.proofs.ByOwner.{read_long, refused_by_owner, accepted_by_owner}
 use Rattle.settlement.proofs.Closing.{end_refusal, end_names, end_lines, passed, within, cells_fit, month_fits}
 use Rattle.settlement.proofs.Paying.{paid_small}
 use Rattle.settlement.proofs.Refusing.{refused_answer, accepted_answer}
@@ -23,9 +25,10 @@ pub returns-in_err-of_event : goal.returns-in_err-of_event
 returns-in_err-of_event c =
     let p = err_from_is_err_and c.from_residual.result c.from_residual.ensures.1 in
     rw (p.1, p.2)
-    (refused_answer (end_call c.args.end) c.args.self.now c.args.lines.now _ 0 _ (sym c.of_event.ensures ∙ c.in_err-of_event.was)
+    (refused_by_owner (end_call c.args.end) c.args.self.now _ _ _ (search rules)
+    (refused_answer (end_call c.args.end) (read_off c.args.self.now) c.args.lines.now _ 0 _ (sym c.of_event.ensures ∙ c.in_err-of_event.was)
     (end_refusal c.args.end _ _ c.into.ensures)
-    (end_names c.args.end _ _))
+    (end_names c.args.end _ _)))
 
 pub pay-paid-requires : goal.pay-paid-requires
 pay-paid-requires c =
@@ -41,14 +44,14 @@ pub copy_from_slice-requires : goal.copy_from_slice-requires
 copy_from_slice-requires c =
     (passed c.args.end _ _ c.into.ensures c.of_event.ensures c.in_ok-of_event.was).lent ∙ sym (search rules)
 
-pub added-cells-requires : goal.added-cells-requires
-added-cells-requires c =
+pub after_month-requires-clause-room : goal.after_month-requires-clause-room
+after_month-requires-clause-room c =
     let back = to_z-of_z w64 c.args.self.now.monthbalance (search rules) in
     cells_fit (passed c.args.end _ _ c.into.ensures c.of_event.ensures c.in_ok-of_event.was)
-    (c.pay-paid.ensures ∙ paid_for c.match-end.fund (search rules) (grind (arith, common_steps, back))) (search rules)
+    (c.pay-paid.ensures ∙ paid_for c.match-end.fund (search rules) (grind (arith, common_steps, back))) (read_long c.args.self.now).month
 
-pub after_month-requires : goal.after_month-requires
-after_month-requires c =
+pub after_month-requires-clause-counted : goal.after_month-requires-clause-counted
+after_month-requires-clause-counted c =
     let back = to_z-of_z w64 c.args.self.now.monthbalance (search rules) in
     let fits =
     month_fits (passed c.args.end _ _ c.into.ensures c.of_event.ensures c.in_ok-of_event.was) {paid = c.pay-paid.result}
@@ -58,21 +61,25 @@ after_month-requires c =
 pub returns : goal.returns
 unfolding fund demand wants book_after
 returns c =
-    let b = c.args.self.now in
+    let kept = c.args.self.now in
+    let b = read_off kept in
+    let call = end_call c.args.end in
     let pass = passed c.args.end _ _ c.into.ensures c.of_event.ensures c.in_ok-of_event.was in
-    let taken : c.match-end.fund ≡ (fund (end_call c.args.end) b, wants (end_call c.args.end) b) =
+    let taken : c.match-end.fund ≡ (fund call b, wants call b) =
     elim c.match-end.branch [
-      | in-Month w ↦ rw w.in-Month.is (w.fund-is ∙ ap (λ (z : ℤ). (z, b.monthshort)) (to_z-of_z w64 b.monthbalance (search rules)))
-      | in-Year w ↦ rw w.in-Year.is (w.fund-is ∙ ap (λ (z : ℤ). (z, b.yearshort)) (to_z-of_z w64 b.yearbalance (search rules)))
+      | in-Month w ↦ rw w.in-Month.is (w.fund-is ∙ ap₂ (λ (z : ℤ) (ws : List ℕ). (z, ws)) (to_z-of_z w64 b.monthbalance (search rules)) w.cells_from.ensures)
+      | in-Year w ↦ rw w.in-Year.is (w.fund-is ∙ ap₂ (λ (z : ℤ) (ws : List ℕ). (z, ws)) (to_z-of_z w64 b.yearbalance (search rules)) w.cells_from-in-Year.ensures)
     ] in
     let paid = c.pay-paid.ensures ∙ paid_for c.match-end.fund (search rules) taken in
     let left = to_z-of_z w64 c.pay-paid.result.left (search rules) ∙ ap (λ (x : Paid). x.left) paid in
-    accepted_answer (end_call c.args.end) b c.args.lines.now _ _ _ pass.accepted (ap (λ (x : Paid). x.funding) paid)
+    let unpaid = ap (λ (x : Paid). x.unpaid) paid in
+    accepted_by_owner call kept _ _ _
     (elim c.match-end-2.branch [
       | in-Month-end w ↦ w.self-is ∙ w.after_month.ensures
-          ∙ ap₂ (book_after_month b) (w.added-cells.ensures ∙ ap (λ (x : Paid). added_to b.yearshort x.unpaid) paid) left
+          ∙ ap₂ (λ (us : List ℕ) (z : ℤ). laid_out (book_after_month b (added_to b.yearshort us) z)) unpaid left
           ∙ rw w.in-Month-end.is refl
       | in-Year-end w ↦ w.self-is ∙ w.after_year.ensures
-          ∙ ap₂ (book_after_year b) (ap (λ (x : Paid). x.unpaid) paid) left ∙ rw w.in-Year-end.is refl
+          ∙ ap₂ (λ (us : List ℕ) (z : ℤ). laid_out (book_after_year b us z)) unpaid left ∙ rw w.in-Year-end.is refl
     ])
-    (c.copy_from_slice.ensures.after ∙ c.of_payments.ensures ∙ ap (λ (x : Paid). payment_lines x.payments) paid ∙ end_lines c.args.end b)
+    (accepted_answer call b c.args.lines.now _ _ _ pass.accepted (ap (λ (x : Paid). x.funding) paid) refl
+    (c.copy_from_slice.ensures.after ∙ c.of_payments.ensures ∙ ap (λ (x : Paid). payment_lines x.payments) paid ∙ end_lines c.args.end b))

@@ -1,5 +1,6 @@
 -- The end where it is due, nothing where it is not or the run has stopped.
 use Rattle.std.proofs.Common.{◌≡◌, refl, sym, ◌∙◌}
+use Rattle.settlement.specs.ByOwner.{read_off}
 use Rattle.settlement.specs.Events.{event_of}
 use Rattle.settlement.specs.declared.End.{End}
 use Rattle.settlement.specs.declared.End.TheVariants.{Month, Year}
@@ -27,4 +28,4 @@ returns c =
     let asked = rw (c.from-event.ensures, event_is s.end) at c.is_due.ensures in
     let appended = rw (c.from-event.ensures, event_is s.end) at c.print_event.ensures in
     when_due (end_call s.end) s.run s.text.now c.if-run-ne0.false (sym asked ∙ c.if-not-is_due.false)
-    (appended_as (event_ends (end_call s.end) s.run.book settled.book _ _ settled.outcome c.close-settled.ensures refl) appended)
+    (appended_as (event_ends (end_call s.end) (read_off s.run.book) (read_off settled.book) _ _ settled.outcome c.close-settled.ensures.as_ruled refl) appended)
