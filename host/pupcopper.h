@@ -14,12 +14,12 @@
    8,783. A year outside 2025 to 2099 is refused with 15 before all else, in a call that is given a year and in an event or a step on a
    book of such a year.
 
-   After that a report, or a book, of another number of words than named below is refused with 4 before all else; in an event or a step
-   the 4 for counts of another number of words comes before 15, since they have no year to look at. A report that has its words is
-   always written. In a refused call it is zeros, with two exceptions: the record number of 7 and 8 in an hour, a target call and a row
-   call, which is that of the first record with that fault (7 names the first bad right, also where an unpriced node stands before it),
-   and the next record number in a reader's step, which is always given. In an accepted one of these three calls the record number is 0.
-   The calls of a run, at the end of this file, say themselves what they write. */
+   After that a report, a book, or the right of a write, of another number of words than named below is refused with 4 before all else;
+   in an event or a step the 4 for counts of another number of words comes before 15, since they have no year to look at. A report that
+   has its words is always written. In a refused call it is zeros, with two exceptions: the record number of 7 and 8 in an hour, a target
+   call and a row call, which is that of the first record with that fault (7 names the first bad right, also where an unpriced node
+   stands before it), and the next record number in a reader's step, which is always given. In an accepted one of these three calls the
+   record number is 0. The calls of a run, at the end of this file, say themselves what they write. */
 #ifndef PUPCOPPER_H
 #define PUPCOPPER_H
 
@@ -44,7 +44,8 @@ enum {
     PUPCOPPER_ALLOCATION = 1,   /* words of a split's report: what is left of the fund */
     PUPCOPPER_HOUR = 3,         /* words of a calendar call's report: day, month, 1 in a peak hour and else 0 */
     PUPCOPPER_TABLE = 1,        /* words of a day table's report: the number of days, 365 or 366 */
-    PUPCOPPER_RIGHT = 8,        /* words of a read's report: owner, source, sink, kind, class, size, first day, last day */
+    PUPCOPPER_RIGHT = 8,        /* words of a read's report, and of the right that a write is lent: owner, source, sink, kind, class,
+                                   size, first day, last day */
     PUPCOPPER_STEP = 10,        /* words of a reader's report: those of a read's, the next record number, 1 if there was no record left
                                    to give and else 0 */
     PUPCOPPER_STEPPED = 5,      /* words of a step's report: 1 if the text had too little room and else 0, the end of the text, the
@@ -76,6 +77,18 @@ uint8_t pupcopper_days(uint64_t year, uint8_t *table, size_t table_bytes, uint64
    bad. */
 uint8_t pupcopper_read(uint64_t year, const uint8_t *rights, size_t rights_bytes, uint64_t record, uint64_t *report,
                        size_t report_words);
+
+/* Writes a right over the record of a record number, from 0, for the year: the record's 16 bytes are then the right's, low byte first,
+   and every other byte of the file stays as it is. The right is lent as the words that a read gives, so that a host reads a right,
+   changes the owner's word and writes the same words back. There is no report. The first of these that applies is the refusal, and then
+   nothing is written:
+
+   15  the year is outside 2025 to 2099;
+   4   the right has another number of words;
+   4   the file is of wrong length, or there is no such record: a write adds none;
+   7   a word is outside the values of its field in the year, also one that the field cannot hold: 65,536 + 7 is not owner 7. */
+uint8_t pupcopper_write(uint64_t year, uint8_t *rights, size_t rights_bytes, uint64_t record, const uint64_t *right,
+                        size_t right_words);
 
 /* A reader's step from a record number, at first 0: what stands there, and the record number to go on with, which is one more after a
    good record and after a bad one, 7. Where no record is left the call is accepted, the last word is 1, and the number stays, as it

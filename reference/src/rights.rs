@@ -138,6 +138,29 @@ fn answer(right: Right, calendar: &Calendar) -> Read {
     }
 }
 
+/// "a right as values, written as the 16 bytes at a given record number in a lent
+/// file, every other byte unchanged. .. Bad values get 7; a record number outside the
+/// file, or a file of wrong length, gets 4 first; neither writes." It too is "given a
+/// year", and 15 comes "before any other check". A value that its field cannot hold is
+/// outside the field's values, and so a bad one.
+pub fn write(year: u64, file: &mut [u8], record: u64, right: &Right) -> u64 {
+    let Some(calendar) = calendar_of(year) else {
+        return NO_SUCH_YEAR;
+    };
+    if is_wrong_length(file) {
+        return WRONG_LENGTH;
+    }
+    let at = usize::try_from(record).unwrap_or(usize::MAX);
+    let Some(bytes) = file.chunks_exact_mut(RECORD).nth(at) else {
+        return WRONG_LENGTH;
+    };
+    if is_bad(right, calendar) {
+        return BAD_RIGHT;
+    }
+    bytes.copy_from_slice(&encode(right));
+    ACCEPTED
+}
+
 /// "A refused call without a book gives 0 for all its other values".
 fn refused(refusal: u64) -> Read {
     Read {
@@ -324,6 +347,114 @@ mod tests {
             assert_eq!(reader.at, 0);
             assert_eq!(read(2_024, file, 0), refused(15));
         }
+    }
+
+    /// The refusal of a write over the file, and the file after it.
+    fn written(year: u64, file: &[u8], record: u64, right: &Right) -> (u64, Vec<u8>) {
+        let mut after = Vec::from(file);
+        let refusal = write(year, &mut after, record, right);
+        (refusal, after)
+    }
+
+    #[test]
+    fn a_write_changes_the_bytes_of_its_record() {
+        let file = [9; 48];
+        let right = decode(&GOOD);
+        for record in 0..3 {
+            let mut expected = file;
+            expected[16 * record..][..16].copy_from_slice(&GOOD);
+            let after = written(2_025, &file, record as u64, &right);
+            assert_eq!(after, (0, expected.to_vec()));
+        }
+    }
+
+    #[test]
+    fn a_write_undoes_a_read_and_a_read_a_write() {
+        let highest = Right {
+            owner: 63,
+            source: 1_023,
+            sink: 1_022,
+            kind: 1,
+            class: 2,
+            size: 100_000,
+            first: 366,
+            last: 366,
+        };
+        let lowest = Right {
+            sink: 1,
+            size: 1,
+            first: 1,
+            last: 1,
+            ..Right::default()
+        };
+        for right in [highest, lowest, decode(&GOOD)] {
+            let (refusal, file) = written(2_027, &[0; 16], 0, &right);
+            let read = read(2_027, &file, 0);
+            assert_eq!((refusal, read.refusal, read.right), (0, 0, right));
+            assert_eq!(written(2_027, &file, 0, &read.right), (0, file));
+        }
+    }
+
+    #[test]
+    fn a_refused_write_leaves_the_file() {
+        let good = decode(&GOOD);
+        let bad = Right { owner: 64, ..good };
+        let refusal = |year, file: &[u8], record, right: &Right| {
+            let (refusal, after) = written(year, file, record, right);
+            assert_eq!(after, file);
+            refusal
+        };
+        for right in [&good, &bad] {
+            assert_eq!(refusal(2_025, &[0; 32], 2, right), 4);
+            assert_eq!(refusal(2_025, &[0; 32], u64::MAX, right), 4);
+            assert_eq!(refusal(2_025, &[0; 32], 1 << 60, right), 4);
+            assert_eq!(refusal(2_025, &[0; 33], 0, right), 4);
+            assert_eq!(refusal(2_025, &[0; 31], 1, right), 4);
+            assert_eq!(refusal(2_025, &[], 0, right), 4);
+            assert_eq!(refusal(2_025, &[0; 65_552], 0, right), 4);
+            assert_eq!(refusal(2_024, &[0; 33], 9, right), 15);
+            assert_eq!(refusal(2_100, &[0; 32], 0, right), 15);
+        }
+        assert_eq!(refusal(2_025, &[0; 32], 1, &bad), 7);
+        assert_eq!(written(2_025, &[0; 65_536], 4_095, &good).0, 0);
+    }
+
+    /// Its low bytes alone would be a good value.
+    #[test]
+    fn a_value_that_its_field_cannot_hold_is_bad() {
+        let good = decode(&GOOD);
+        let (two, four) = (1 << 16, 1 << 32);
+        let (owner, source, sink) = (good.owner + two, good.source + two, good.sink + two);
+        let (kind, class, size) = (good.kind + 256, good.class + 256, good.size + four);
+        let (first, last) = (good.first + two, good.last + two);
+        let wide = [
+            Right { owner, ..good },
+            Right { source, ..good },
+            Right { sink, ..good },
+            Right { kind, ..good },
+            Right { class, ..good },
+            Right { size, ..good },
+            Right { first, ..good },
+            Right { last, ..good },
+        ];
+        for right in wide {
+            assert_eq!(encode(&right), GOOD);
+            assert_eq!(written(2_025, &[0; 16], 0, &right), (7, vec![0; 16]));
+        }
+    }
+
+    #[test]
+    fn the_top_day_of_a_write_comes_from_the_year() {
+        let refusals = |year| {
+            let right = |last| Right {
+                last,
+                ..decode(&GOOD)
+            };
+            [365, 366, 367].map(|last| written(year, &[0; 16], 0, &right(last)).0)
+        };
+        assert_eq!(refusals(2_025), [0, 7, 7]);
+        assert_eq!(refusals(2_027), [0, 0, 7]);
+        assert_eq!(refusals(2_099), [0, 7, 7]);
     }
 
     /// 1 June 2027 is a Tuesday, where 1 June 2025 is a Sunday.

@@ -30,8 +30,8 @@ pub const ALLOCATION: usize = 1;
 pub const HOUR: usize = 3;
 /// "words of a day table's report: the number of days, 365 or 366".
 pub const TABLE: usize = 1;
-/// "words of a read's report: owner, source, sink, kind, class, size, first
-/// day, last day".
+/// "words of a read's report, and of the right that a write is lent: owner, source,
+/// sink, kind, class, size, first day, last day".
 pub const RIGHT: usize = 8;
 /// "those of a read's, the next record number, 1 if there was no record left to
 /// give and else 0".
@@ -342,6 +342,34 @@ pub fn read(year: u64, file: &[u8], record: u64, report: &mut [u64]) -> u64 {
     })
 }
 
+/// The right of these words, if there are as many as in a read's report.
+fn right_of(words: &[u64]) -> Option<Right> {
+    let [owner, source, sink, kind, class, size, first, last] = *words else {
+        return None;
+    };
+    Some(Right {
+        owner,
+        source,
+        sink,
+        kind,
+        class,
+        size,
+        first,
+        last,
+    })
+}
+
+/// "Writes a right over the record of a record number". The first that applies is the
+/// refusal: 15, where "the year is outside 2025 to 2099", 4, where "the right has
+/// another number of words", and then what the write itself refuses.
+pub fn write(year: u64, file: &mut [u8], record: u64, right: &[u64]) -> u64 {
+    match right_of(right) {
+        Some(right) => rights::write(year, file, record, &right),
+        None if is_outside(year) => NO_SUCH_YEAR,
+        None => WRONG_LENGTH,
+    }
+}
+
 /// "A reader's step from a record number, at first 0: what stands there, and the
 /// record number to go on with". The fields are zeros where no record is given;
 /// "the next record number in a reader's step .. is always given".
@@ -401,6 +429,7 @@ mod tests {
     use crate::target::asked;
 
     mod balances;
+    mod writes;
 
     /// The words of a book at its first month end.
     struct Words {

@@ -1,4 +1,5 @@
 pub mod Dates
+pub mod RecordWrites
 pub mod Sentences
 pub mod SignedFunds
 pub mod Table

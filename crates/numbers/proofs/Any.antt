@@ -6,6 +6,7 @@ use mathlib.Core.Bool.{Bool, true, false, ◌||◌, or-true}
 use mathlib.Core.Logic.{⊎_elim}
 use native.Mathlib.Nat.{le_of_suc-le-suc, not-suc-le-zero, eq-or-lt_of_le}
 use native.Mathlib.Numerals.{add-one}
+use native.Mathlib.Omega.{arith}
 use Rattle.numbers.specs.Lists.{any_below}
 
 module _ (test : ℕ → Bool) where
@@ -39,3 +40,9 @@ module _ (test : ℕ → Bool) where
       by_test : (b : Bool) → test k ≡ b → test k ≡ false
       by_test true passes = passes ∙ sym (any_here n k inside passes) ∙ none
       by_test false fails = fails
+
+  -- no number below n passes
+  pub any_absent : (n : ℕ) → ((k : ℕ) → k < n → test k ≡ false) → any_below test n ≡ false
+  unfolding any_below
+  any_absent zero fails = refl
+  any_absent (suc n) fails = ap₂ (λ (a b : Bool). a || b) (any_absent n (λ k l. fails k (omega arith))) (fails n (omega arith))

@@ -3,9 +3,9 @@
 use Prim.Native.Nat.{ℕ, zero, suc, ◌+◌, ◌-◌, ◌*◌, ◌≤◌, ◌<◌, min}
 use mathlib.Core.Bool.{Bool, true, false, cond, not, false≢true}
 use mathlib.Core.Logic.{⊎_elim}
-use mathlib.Core.List.{List, [], ◌∷◌, ◌++◌}
+use mathlib.Core.List.{List, [], ◌∷◌, ◌++◌, append-nil, append_assoc}
 use mathlib.Core.Path.{◌≡◌, refl, sym, ap, ap₂, subst, ◌∙◌}
-use native.Mathlib.Nat.{not-suc-le-zero, le_of_suc-le-suc, le_of_eq, eq-or-lt_of_le, mul-zero}
+use native.Mathlib.Nat.{not-suc-le-zero, le_of_suc-le-suc, le_of_eq, eq-or-lt_of_le, mul-zero, add-zero, add-suc}
 use native.Mathlib.Numerals.{add-one}
 use native.Mathlib.Decide.{ℕ_discrete}
 use native.Mathlib.Omega.{arith}
@@ -117,6 +117,15 @@ list_below_get_or xs d =
 -- of any list by the number of its elements
 pub list_of_elements : {A : Type 0} (xs : List A) (d : A) {n : ℕ} → length xs ≡ n → list_below (λ i. get_or xs i d) n ≡ xs
 list_of_elements xs d all = ap (list_below (λ i. get_or xs i d)) (sym all) ∙ list_below_get_or xs d
+
+-- the list of m + n elements is that of the first m, then that of the n behind them
+pub list_below_append : {A : Type 0} (f : ℕ → A) (m n : ℕ) → list_below f (m + n) ≡ list_below f m ++ list_below (λ i. f (m + i)) n
+unfolding list_below
+list_below_append f m zero = ap (list_below f) (add-zero m) ∙ sym (append-nil (list_below f m))
+list_below_append {A} f m (suc n) =
+    ap (list_below f) (add-suc m n)
+    ∙ ap (λ (l : List A). l ++ (f (m + n) ∷ [])) (list_below_append f m n)
+    ∙ append_assoc (list_below f m) (list_below (λ i. f (m + i)) n) (f (m + n) ∷ [])
 
 -- functions that agree below n give one list
 pub list_below_ext : {A : Type 0} (f g : ℕ → A) (n : ℕ) → ((i : ℕ) → i < n → f i ≡ g i) → list_below f n ≡ list_below g n

@@ -6,3 +6,4 @@ pub mod Refusals
 pub mod Signed
 pub mod Tables
 pub mod WordLaws
+pub mod Written

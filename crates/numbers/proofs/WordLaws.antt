@@ -4,8 +4,8 @@
 use Prim.Native.Nat.{ℕ, zero, suc, ◌+◌, ◌-◌, ◌*◌, ◌/◌, ◌%◌, ◌^◌, ◌≤◌, ◌<◌}
 use mathlib.Core.Path.{◌≡◌, refl, sym, ap, ap₂, subst, ◌∙◌}
 use mathlib.Core.Bool.{Bool, true, false}
-use mathlib.Core.List.{List, [], ◌++◌}
-use native.Mathlib.Nat.{add-zero, add-suc, add_assoc, add_comm, add-mul, add-sub_of_le, mul_assoc, mul_comm, div-div-eq-div-mul, div-one, mod-eq_of_lt, mod-lt, mod-one, le_of_suc-le-suc, not-suc-le-zero, one-le-pow, pow-suc, pow-zero, zero-add, zero-lt-suc, zero-mul}
+use mathlib.Core.List.{List, [], ◌∷◌, ◌++◌}
+use native.Mathlib.Nat.{add-mul-div_right, add-zero, add-suc, add_assoc, add_comm, add-mul, add-sub_of_le, mul_assoc, mul_comm, div-div-eq-div-mul, div-one, mod-eq_of_lt, mod-lt, mod-one, le_of_suc-le-suc, not-suc-le-zero, one-le-pow, pow-suc, pow-zero, zero-add, zero-lt-suc, zero-mul}
 use native.Mathlib.Omega.{arith}
 use lib.Arith.{digits_div, digits_lt, digits_mod, mod-mul}
 use lib.Dec.{leb}
@@ -13,12 +13,12 @@ use lib.ListN.{get_or, length, take, drop, get_or-append}
 use lib.Pow.{pow-add}
 use lib.Seq.{get_or-append-add, get_or-take}
 use borrow.Author.Tests.{leb-true, leb-false}
-use Rattle.std.specs.Int.{from_le_bytes, w32, w64}
+use Rattle.std.specs.Int.{from_le_bytes, to_le_bytes, w32, w64}
 use Rattle.std.specs.Simd.{first_chunks}
 use Rattle.std.proofs.lemmas.List.{get_or-drop, drop-drop}
 use Rattle.numbers.specs.Lists.{list_below}
 use Rattle.numbers.specs.Words.{AreBytes, bytes_of, part_of, word}
-use Rattle.numbers.proofs.Counts.{get_or_beyond, get_or_list_below, length_list_below, list_below_ext}
+use Rattle.numbers.proofs.Counts.{get_or_beyond, get_or_list_below, length_list_below, list_below_append, list_below_ext}
 
 -- the words of four and of eight bytes are those that the library reads, low byte first
 pub from_le_bytes_4 : (bytes : List ℕ) → from_le_bytes w32 bytes ≡ word 4 bytes 0
@@ -26,6 +26,11 @@ from_le_bytes_4 bytes = omega arith
 
 pub from_le_bytes_8 : (bytes : List ℕ) → from_le_bytes w64 bytes ≡ word 8 bytes 0
 from_le_bytes_8 bytes = omega arith
+
+-- and the bytes of eight are those that it gives
+pub to_le_bytes_8 : (number : ℕ) → to_le_bytes w64 number ≡ bytes_of 8 number
+unfolding bytes_of list_below
+to_le_bytes_8 number = ap (λ (low : ℕ). low % 256 ∷ drop 1 (to_le_bytes w64 number)) (sym (div-one number))
 
 pow_pos : (n : ℕ) → 0 < 256 ^ n
 pow_pos n = one-le-pow n 256 (zero-lt-suc 255)
@@ -35,6 +40,15 @@ word_ext : (xs ys : List ℕ) (a b n : ℕ) → ((i : ℕ) → i < n → get_or 
 word_ext xs ys a b zero agree = refl
 word_ext xs ys a b (suc n) agree =
     ap₂ (λ (low byte : ℕ). low + byte * 256 ^ n) (word_ext xs ys a b n (λ i l. agree i (omega arith))) (agree n (omega arith))
+
+-- so do they where all bytes from two places on agree, so many of them
+pub word_agree : (xs ys : List ℕ) (a b size : ℕ) → ((i : ℕ) → i < size → get_or xs (a + i) 0 ≡ get_or ys (b + i) 0)
+    → (n at : ℕ) {x y : ℕ} → at + n ≤ size → a + at ≡ x → b + at ≡ y → word n xs x ≡ word n ys y
+word_agree xs ys a b size agree n at within x y =
+    ap (word n xs) (sym x)
+    ∙ word_ext xs ys (a + at) (b + at) n
+    (λ i l. ap (λ (p : ℕ). get_or xs p 0) (add_assoc a at i) ∙ agree (at + i) (omega arith) ∙ ap (λ (p : ℕ). get_or ys p 0) (sym (add_assoc b at i)))
+    ∙ ap (word n ys) y
 
 -- a word of the first bytes, and one of the bytes from a place on
 pub word_take : (bytes : List ℕ) (m n at : ℕ) → at + n ≤ m → word n (take m bytes) at ≡ word n bytes at
@@ -68,7 +82,7 @@ word_join bytes at m (suc n) =
 
 module _ (bytes : List ℕ) (are : AreBytes bytes) where
   -- a word of n bytes is below 256 ^ n
-  word_most : (n at : ℕ) → word n bytes at < 256 ^ n
+  pub word_most : (n at : ℕ) → word n bytes at < 256 ^ n
   word_most zero at = rw (pow-zero 256) (omega arith)
   word_most (suc n) at =
       rw (pow-suc 256 n, mul_comm (256 ^ n) 256) (omega (arith, digits_lt (are (at + n)) (word_most n at)))
@@ -132,6 +146,34 @@ word_bytes bytes are at count =
         ∙ word_part bytes are at i 1 above (at + i) refl
         ∙ ap (λ (place : ℕ). 0 + get_or bytes place 0 * 1) (add-zero (at + i))
         ∙ omega arith
+
+-- the bytes of a number that is made of two are those of the low one, then those of the high one
+pub bytes_join : (m n low high : ℕ) → low < 256 ^ m → bytes_of (m + n) (low + high * 256 ^ m) ≡ bytes_of m low ++ bytes_of n high
+unfolding bytes_of
+bytes_join m n low high small =
+    list_below_append (part_of 1 (low + high * 256 ^ m)) m n
+    ∙ ap₂ (λ (xs ys : List ℕ). xs ++ ys)
+    (list_below_ext _ (part_of 1 low) m (λ i inside. low_byte i (m - (i + 1)) (omega arith)))
+    (list_below_ext _ (part_of 1 high) n (λ i _. high_byte i))
+  where
+    above_it : (i above : ℕ) → i + suc above ≡ m → high * 256 ^ m ≡ high * 256 ^ above * 256 * 256 ^ i
+    above_it i above e =
+        ap (λ (p : ℕ). high * 256 ^ p) (sym e)
+        ∙ ap (λ (p : ℕ). high * p) (pow-add 256 i (suc above) ∙ mul_comm (256 ^ i) (256 ^ suc above))
+        ∙ sym (mul_assoc high (256 ^ suc above) (256 ^ i))
+        ∙ ap (λ (p : ℕ). p * 256 ^ i) (ap (λ (p : ℕ). high * p) (pow-suc 256 above) ∙ sym (mul_assoc high (256 ^ above) 256))
+
+    low_byte : (i above : ℕ) → i + suc above ≡ m → part_of 1 (low + high * 256 ^ m) i ≡ part_of 1 low i
+    low_byte i above e =
+        ap (λ (more : ℕ). (low + more) / 256 ^ i % 256) (above_it i above e)
+        ∙ ap (λ (q : ℕ). q % 256) (add-mul-div_right low (high * 256 ^ above * 256) (pow_pos i))
+        ∙ omega arith
+
+    high_byte : (i : ℕ) → part_of 1 (low + high * 256 ^ m) (m + i) ≡ part_of 1 high i
+    high_byte i =
+        ap (λ (p : ℕ). (low + high * 256 ^ m) / p % 256) (pow-add 256 m i)
+        ∙ ap (λ (q : ℕ). q % 256) (sym (div-div-eq-div-mul (low + high * 256 ^ m) (256 ^ m) (256 ^ i)))
+        ∙ ap (λ (q : ℕ). q / 256 ^ i % 256) (ap (λ (x : ℕ). x / 256 ^ m) (add_comm low (high * 256 ^ m)) ∙ digits_div high small)
 
 -- bytes behind bytes
 module _ (xs ys : List ℕ) where

@@ -1,6 +1,6 @@
--- Sums, counts, searches and lists over the numbers below a bound, and the sum of a list.
+-- Sums, counts, searches and lists over the numbers below a bound; the sum of a list, and a list with a part written over it.
 -- Assumes nothing.
-use Rattle.std.specs.Prelude.{ℕ, zero, suc, ◌+◌, ◌<◌, ◌≡◌, Bool, true, false, cond, ◌||◌, List, [], ◌∷◌, ◌++◌, ℤ, pos, ◌+ℤ◌}
+use Rattle.std.specs.Prelude.{ℕ, zero, suc, ◌+◌, ◌<◌, ◌≡◌, Bool, true, false, cond, ◌||◌, List, [], ◌∷◌, ◌++◌, length, take, drop, ℤ, pos, ◌+ℤ◌}
 
 -- the sum of a list of numbers
 unfoldable pub total : List ℕ → ℕ
@@ -37,3 +37,7 @@ pub record IsLowest (test : ℕ → Bool) (n r : ℕ) : Type 0 where
 unfoldable pub list_below : {A : Type 0} → (ℕ → A) → ℕ → List A
 list_below f zero = []
 list_below f (suc n) = list_below f n ++ (f n ∷ [])
+
+-- the list with a part written over it from a place on
+unfoldable pub written : List ℕ → ℕ → List ℕ → List ℕ
+written before at part = take at before ++ (part ++ drop (at + length part) before)

@@ -1,5 +1,5 @@
 -- The layout of a book in words, one way and back: the words of a book are read as that book, and the words of the book that is read are
--- those words.
+-- those words; and that of a right.
 -- Assumes nothing.
 use Prim.Native.Nat.{ℕ, zero, suc, ◌≤◌}
 use mathlib.Core.Path.{◌≡◌, refl, ap, ◌∙◌}
@@ -17,6 +17,8 @@ use Rattle.settlement.specs.Book.{Book}
 use Rattle.settlement.specs.ByOwner.{read_off, laid_out}
 use Rattle.settlement.proofs.ByOwner.{read_back}
 use Rattle.settlement.proofs.Shares.{IsLong}
+use Rattle.rights.specs.declared.Right.{Right}
+use Rattle.pupcopper.specs.Calls.{right_in, right_report}
 use Rattle.pupcopper.specs.BookWords.{BookWords, words_in, counts_of, balances_of, words_of, kept_from, book_from, mark_in, is_wrong_count, is_wrong_mark}
 use Rattle.pupcopper.proofs.WordRows.{Long, long}
 
@@ -68,3 +70,9 @@ words_back words counted marked =
 
     balances : balances_of (kept_from words) ≡ words.balances
     balances = list_of_elements words.balances (pos 0) sized.balances
+
+-- ---- a right
+
+-- the words that a read gives are those of its right, to be written
+pub right_back : (right : Right) → right_in (right_report right) ≡ right
+right_back right = refl

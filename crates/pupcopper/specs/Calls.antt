@@ -1,7 +1,7 @@
--- What the calls for hosts give: each is a call of the library with its values written into a report. The numbers of words are looked
--- at before the library is called.
+-- What the calls for hosts give: each is a call of the library with its values written into a report; a write is lent its right as such
+-- words. The numbers of words are looked at before the library is called.
 -- Assumes nothing.
-use Rattle.std.specs.Prelude.{ℕ, ◌+◌, ◌≡◌, Bool, true, cond, not, ◌&&◌, List, [], ◌∷◌, ◌++◌, eqb, length, ℤ, pos}
+use Rattle.std.specs.Prelude.{ℕ, ◌+◌, ◌≡◌, Bool, true, cond, not, ◌&&◌, List, [], ◌∷◌, ◌++◌, eqb, get_or, length, ℤ, pos}
 use Rattle.numbers.specs.Refusals.{first_refusal, ◌if◌, answer_by}
 use Rattle.calendar.specs.Almanac.{is_outside}
 use Rattle.calendar.specs.declared.OperatingHour.{OperatingHour}
@@ -19,7 +19,7 @@ number_of own called = answer_by own called own
 
 -- ---- calls without a book
 
--- a report of another number of words than the call's
+-- a report, or the right that a write is lent, of another number of words than the call's
 abbrev pub is_wrong_report : ℕ → ℕ → Bool
 is_wrong_report words report = not (eqb report words)
 
@@ -31,8 +31,8 @@ report_refusal words report = first_refusal ((4 if is_wrong_report words report)
 unfoldable pub dated_refusal : ℕ → ℕ → ℕ → ℕ
 dated_refusal year words report = first_refusal ((15 if is_outside year) ∷ (4 if is_wrong_report words report) ∷ [])
 
--- how many words each report has: an hour's three values; one, the days of a year; the eight fields of a right; those and a reader's two; one,
--- a target call's record number; one, what a split leaves
+-- how many words each report has: an hour's three values; one, the days of a year; the eight fields of a right, which a write is lent too;
+-- those and a reader's two; one, a target call's record number; one, what a split leaves
 abbrev pub hour_words : ℕ
 hour_words = 3
 
@@ -67,6 +67,20 @@ right_report right =
     ∷ right.first
     ∷ right.last
     ∷ []
+
+-- and back: the right that eight words stand for, whatever they are
+abbrev pub right_in : List ℕ → Right
+right_in words =
+    record {
+      owner = get_or words 0 0;
+      source = get_or words 1 0;
+      sink = get_or words 2 0;
+      kind = get_or words 3 0;
+      class = get_or words 4 0;
+      size = get_or words 5 0;
+      first = get_or words 6 0;
+      last = get_or words 7 0;
+    }
 
 -- a reader's step: the fields that it gives, where it then stands, and whether it "says there is none"
 abbrev pub step_report : ℕ → List ℕ → ℕ → List ℕ

@@ -1,7 +1,8 @@
--- For the contracts of inner functions alone, no part of what a call promises: the words in lent slices, and amounts that fit 64 bits with
--- their sign.
+-- For the contracts of inner functions alone, no part of what a call promises: the words in lent slices, the values that a right's fields hold,
+-- and amounts that fit 64 bits with their sign.
 -- Assumes nothing.
-use Rattle.std.specs.Prelude.{ℕ, ◌^◌, ◌<◌, ◌≡◌, length}
+use Rattle.std.specs.Prelude.{ℕ, ◌^◌, ◌<◌, ◌≡◌, min, length}
+use Rattle.rights.specs.declared.Right.{Right}
 use Rattle.settlement.specs.Events.{Call, hour_call, month_end_call, year_end_call, Settled}
 use Rattle.pupcopper.specs.BookWords.{BookWords, words_in}
 use Rattle.pupcopper.specs.declared.book_words.BookWords.{BookWords as ReadBook}
@@ -20,6 +21,20 @@ abbrev pub bytes_lent : Call → ℕ
 bytes_lent (hour_call file prices collected) = length file
 bytes_lent month_end_call = 0
 bytes_lent year_end_call = 0
+
+-- a right with each value that its field cannot hold made the largest that it can, which is no good value
+abbrev pub held : Right → Right
+held right =
+    record {
+      owner = min right.owner 65_535;
+      source = min right.source 65_535;
+      sink = min right.sink 65_535;
+      kind = min right.kind 255;
+      class = min right.class 255;
+      size = min right.size 4_294_967_295;
+      first = min right.first 65_535;
+      last = min right.last 65_535;
+    }
 
 -- the same three slices, whatever their words
 pub record SameSlices (before after : LentBook) : Type 0 where

@@ -9,7 +9,8 @@ ghost use Rattle.std.specs.Prelude.{◌≡◌, false, [], ◌∷◌, length};
 ghost use Rattle.numbers.specs.Refusals.{answer_by};
 ghost use Rattle.calendar.specs.Almanac.{days_in_year};
 ghost use Rattle.calendar.specs.Year.{calendar_refusal, operating_hour, table_after, table_refusal};
-ghost use Rattle.rights.specs.Layout.{reading};
+ghost use Rattle.rights.specs.Layout.{reading, record_refusal};
+ghost use Rattle.rights.specs.Writing.{file_after};
 ghost use Rattle.rights.specs.Faults.{faulty_record};
 ghost use Rattle.split.specs.Split.{left, limits_of, payments_after, split_refusal};
 ghost use Rattle.target.specs.Rounding.{round_tenths};
@@ -20,7 +21,7 @@ ghost use Rattle.statement_text.specs.Buffer.{end_after, text_after};
 ghost use Rattle.statement_text.specs.Sentence.{sentence, sentence_room};
 ghost use Rattle.pupcopper.specs.Billing.{billing_class};
 ghost use Rattle.pupcopper.specs.BookWords.{words_in};
-ghost use Rattle.pupcopper.specs.Calls.{number_of, report_refusal, dated_refusal, hour_words, hour_report, table_words, right_words, right_report, step_words, step_report, step_refusal, outcome_words, allocation_words, open_refusal, words_opened, words_refusal, Settles};
+ghost use Rattle.pupcopper.specs.Calls.{number_of, report_refusal, dated_refusal, hour_words, hour_report, table_words, right_in, right_words, right_report, step_words, step_report, step_refusal, outcome_words, allocation_words, open_refusal, words_opened, words_refusal, Settles};
 ghost use Rattle.pupcopper.specs.RunCalls.{HostSteps, closed_words, closed_report, closing_run, closing_text, reported};
 
 use book_words::{BookWords, LentBook};
@@ -55,7 +56,7 @@ pub extern "C" fn pupcopper_cents(tenths: i64) -> i64
     target::round_tenths(tenths)
 }
 
-// ---- calls without a book: a report of another length is 4 before all else but 15, and then nothing is written
+// ---- calls without a book: a report, or a right, of another number of words is 4 before all else but 15, and then nothing is written
 
 // The calendar call. The report gets the day, the month, and 1 in a peak hour.
 #[unsafe(no_mangle)]
@@ -100,6 +101,20 @@ pub extern "C" fn pupcopper_read(year: u64, rights: &[u8], number: u64, report: 
     }
     let outcome = rights::read(year, rights, number);
     report.copy_from_slice(&outcome.map_or([0; reports::RIGHT_WORDS], reports::of_right));
+    reports::number_of(outcome)
+}
+
+// The write by record number. It is lent the right as the words of a read's report.
+#[unsafe(no_mangle)]
+#[tactic(auto, using(crate::proofs::ReportWords::handed_on))]
+pub extern "C" fn pupcopper_write(year: u64, rights: &mut [u8], number: u64, right: &[u64]) -> u8
+    ensures value { result ≡ number_of (dated_refusal year right_words (length right.now)) (record_refusal year rights.old number (right_in right.now)) }
+    ensures rights_after { rights.new ≡ answer_by (report_refusal right_words (length right.now)) (file_after year rights.old number (right_in right.now)) rights.old }
+{
+    if right.len() != reports::RIGHT_WORDS {
+        return reports::wrong_length(year);
+    }
+    let outcome = rights::write(year, rights, number, reports::right_of(right));
     reports::number_of(outcome)
 }
 

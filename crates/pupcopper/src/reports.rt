@@ -1,9 +1,10 @@
-// What a call gives beside its number, in words, written into its report.
-ghost use Rattle.std.specs.Prelude.{◌^◌, ◌<◌, ◌≡◌, cond, [], ◌∷◌, ◌++◌, length};
+// What a call gives beside its number, in words, written into its report; and the right that a host's words stand for.
+ghost use Rattle.std.specs.Prelude.{◌^◌, ◌<◌, ◌≡◌, min, cond, [], ◌∷◌, ◌++◌, length};
 ghost use Rattle.calendar.specs.Almanac.{is_outside};
 ghost use Rattle.numbers.specs.Refusals.{answer_number, answer_record};
 ghost use Rattle.rights.specs.Reader.{given_right, says_none};
-ghost use Rattle.pupcopper.specs.Calls.{hour_report, right_report, settled_report, is_wrong_report};
+ghost use Rattle.pupcopper.specs.Calls.{hour_report, right_in, right_report, settled_report, is_wrong_report};
+ghost use Rattle.pupcopper.specs.InnerContracts.{held};
 
 use calendar::OperatingHour;
 use numbers::Refusal;
@@ -75,6 +76,37 @@ pub(crate) fn of_right(right: Right) -> [u64; RIGHT_WORDS]
         u64::from(right.first),
         u64::from(right.last),
     ]
+}
+
+// The right that eight words stand for. A value that its field cannot hold becomes the largest that it can, which is no good value either,
+// so that the words are refused for it.
+pub(crate) fn right_of(words: &[u64]) -> Right
+    requires { length words.now ≡ 8 }
+    ensures { result ≡ held (right_in words.now) }
+{
+    Right {
+        owner: held_by_16(words[0]),
+        source: held_by_16(words[1]),
+        sink: held_by_16(words[2]),
+        kind: held_by_8(words[3]),
+        class: held_by_8(words[4]),
+        size: u32::try_from(words[5]).unwrap_or(u32::MAX),
+        first: held_by_16(words[6]),
+        last: held_by_16(words[7]),
+    }
+}
+
+// A value, or the largest that 16 bits hold; below, that 8 bits hold.
+fn held_by_16(value: u64) -> u16
+    ensures { result ≡ min value 65_535 }
+{
+    u16::try_from(value).unwrap_or(u16::MAX)
+}
+
+fn held_by_8(value: u64) -> u8
+    ensures { result ≡ min value 255 }
+{
+    u8::try_from(value).unwrap_or(u8::MAX)
 }
 
 // Those of what a reader gives, zeros if it gives none; then where it stands, and 1 if it says that there is none.

@@ -14,7 +14,7 @@ use Rattle.std.specs.Prelude.{Result, Ok, Err}
 use Rattle.numbers.specs.declared.refusal.Refusal.{Refusal}
 use Rattle.numbers.specs.declared.refusal.Refusal.TheVariants.{WrongLength, BadRight, UnpricedNode, NoSuchYear}
 use Rattle.numbers.specs.Refusals.{first_refusal, answered}
-use Rattle.numbers.proofs.Any.{any_here, any_miss}
+use Rattle.numbers.proofs.Any.{any_absent, any_here, any_miss}
 use Rattle.numbers.proofs.Lowest.{lowest_only, lowest_found, lowest_within}
 use Rattle.numbers.proofs.Refusals.{is_within, each_number, has_refusal, refusal_next, refusal_clear}
 use Rattle.calendar.specs.Almanac.{is_outside, days_in_year}
@@ -133,6 +133,17 @@ module _ (year prices : ℕ) (file : List ℕ) where
         not-false (is_good (days_in_year year) (right_at file number)) (sym (fault_7 number) ∙ any_miss (fault_at year prices file 7) (record_count file) number bad.0 inside),
         sym (fault_8 number) ∙ any_miss (fault_at year prices file 8) (record_count file) number unpriced.0 inside,
       )
+
+  -- a file is accepted where its length is right and each of its records is good and has its prices
+  pub clear_of_faults : is_outside year ≡ false → is_wrong_length (length file) ≡ false
+      → ((number : ℕ) → number < record_count file
+      → (is_good (days_in_year year) (right_at file number) ≡ true) × (is_unpriced prices (right_at file number) ≡ false))
+      → file_refusal year prices file ≡ 0
+  clear_of_faults within right fine =
+      sym
+      (file_0 within right
+      (no_fault_to 7 (any_absent (fault_at year prices file 7) (record_count file) (λ k l. fault_7 k ∙ ap not (fine k l).0)))
+      (no_fault_to 8 (any_absent (fault_at year prices file 8) (record_count file) (λ k l. fault_8 k ∙ (fine k l).1))))
 
   -- ---- the record number
 

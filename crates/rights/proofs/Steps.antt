@@ -12,12 +12,13 @@ use Rattle.rights.specs.declared.Right.{Right}
 use Rattle.std.specs.Prelude.{Result, Some, None, Ok, Err}
 use Rattle.numbers.specs.declared.refusal.Refusal.{Refusal}
 use Rattle.numbers.specs.declared.refusal.Refusal.TheVariants.{WrongLength, BadRight, NoSuchYear}
-use Rattle.numbers.specs.Refusals.{first_refusal, answered, number_in, refusal_of}
+use Rattle.numbers.specs.Refusals.{answered, number_in, refusal_of}
 use Rattle.numbers.proofs.Refusals.{refusal_is, number_some}
 use Rattle.calendar.specs.Almanac.{is_outside, days_in_year}
 use Rattle.rights.specs.Layout.{Reading, record_count, right_at, is_good, is_wrong_length, read_refusal, refused_reading, reading}
 use Rattle.rights.specs.Reader.{Given, given_number, given_right, given_faulty, says_none, is_finished, next_after, IsStep}
-use Rattle.rights.proofs.Readings.{read_good, read_bad, answered_good, answered_bad}
+use Rattle.rights.proofs.RecordCalls.{record_15, record_wrong, record_past}
+use Rattle.rights.proofs.Readings.{read_by, read_good, read_bad, answered_good, answered_bad}
 
 module _ (year : ℕ) (file : List ℕ) (next : ℕ) where
   -- a step, from whether the reader has finished and what the read by its number gives
@@ -37,8 +38,7 @@ module _ (year : ℕ) (file : List ℕ) (next : ℕ) where
 
   module _ (outside : is_outside year ≡ true) where
     read_outside : reading year file next ≡ refused_reading 15
-    unfolding reading read_refusal first_refusal
-    read_outside = rw outside
+    read_outside = read_by year file next (record_15 year file next _ outside)
 
     finished_outside : is_finished year file next ≡ false
     unfolding is_finished
@@ -53,8 +53,7 @@ module _ (year : ℕ) (file : List ℕ) (next : ℕ) where
 
   module _ (within : is_outside year ≡ false) (wrong : is_wrong_length (length file) ≡ true) where
     read_wrong : reading year file next ≡ refused_reading 4
-    unfolding reading read_refusal first_refusal
-    read_wrong = rw (within, wrong)
+    read_wrong = read_by year file next (record_wrong year file next _ within wrong)
 
     finished_wrong : is_finished year file next ≡ false
     unfolding is_finished
@@ -65,8 +64,7 @@ module _ (year : ℕ) (file : List ℕ) (next : ℕ) where
 
   module _ (within : is_outside year ≡ false) (right : is_wrong_length (length file) ≡ false) where
     read_past : record_count file ≤ next → reading year file next ≡ refused_reading 4
-    unfolding reading read_refusal first_refusal
-    read_past past = rw (within, right, le-leb (record_count file) next past)
+    read_past past = read_by year file next (record_past year file next _ within right past)
 
     pub finished_past : record_count file ≤ next → is_finished year file next ≡ true
     unfolding is_finished

@@ -1,9 +1,9 @@
 -- The rights file: where each field of a record stands, which values are good, and when a right is live.
 -- Assumes nothing.
-use Rattle.std.specs.Prelude.{ℕ, ◌+◌, ◌*◌, ◌/◌, ◌%◌, Bool, not, ◌&&◌, ◌||◌, List, [], ◌∷◌, leb, ltb, eqb, length}
+use Rattle.std.specs.Prelude.{ℕ, ◌+◌, ◌*◌, ◌/◌, ◌%◌, Bool, not, ◌&&◌, ◌||◌, List, [], ◌∷◌, ◌++◌, leb, ltb, eqb, length}
 use Rattle.numbers.specs.Limits.{owners, nodes}
 use Rattle.numbers.specs.Refusals.{first_refusal, ◌if◌, answer_by}
-use Rattle.numbers.specs.Words.{word}
+use Rattle.numbers.specs.Words.{word, bytes_of}
 use Rattle.calendar.specs.Almanac.{is_outside, days_in_year}
 use Rattle.calendar.specs.declared.OperatingHour.{OperatingHour}
 use Rattle.rights.specs.declared.Right.{Right}
@@ -34,6 +34,18 @@ right_from file at =
 -- the record of a number, from 0
 abbrev pub right_at : List ℕ → ℕ → Right
 right_at file number = right_from file (number * record_bytes)
+
+-- "the 16 bytes" of a right (Wish 1): the bytes of its fields, low byte first, in the order of their places
+unfoldable pub laid_out : Right → List ℕ
+laid_out right =
+    bytes_of 2 right.owner
+    ++ bytes_of 2 right.source
+    ++ bytes_of 2 right.sink
+    ++ bytes_of 1 right.kind
+    ++ bytes_of 1 right.class
+    ++ bytes_of 4 right.size
+    ++ bytes_of 2 right.first
+    ++ bytes_of 2 right.last
 
 -- the values that each field may have: "owner, 16 bits, 0 to 63"
 abbrev pub good_owner : Right → Bool
@@ -75,14 +87,19 @@ most_bytes = 65_536
 abbrev pub is_wrong_length : ℕ → Bool
 is_wrong_length bytes = not (eqb (bytes % record_bytes) 0) || ltb most_bytes bytes
 
--- "A read by record number, from 0, gives the eight fields, or 4 or 7": 4 also for "no such record"; and 15 before them
-unfoldable pub read_refusal : ℕ → List ℕ → ℕ → ℕ
-read_refusal year file number =
+-- the refusals of "record calls, reading or writing", for a file, a record number and the right that is read or written: 15 "before any other
+-- check" (Wish 7); 4 also for "no such record"; 7, "a field outside its values"
+unfoldable pub record_refusal : ℕ → List ℕ → ℕ → Right → ℕ
+record_refusal year file number right =
     first_refusal
     ((15 if is_outside year)
     ∷ (4 if is_wrong_length (length file) || leb (record_count file) number)
-    ∷ (7 if not (is_good (days_in_year year) (right_at file number)))
+    ∷ (7 if not (is_good (days_in_year year) right))
     ∷ [])
+
+-- "A read by record number, from 0, gives the eight fields, or 4 or 7"
+abbrev pub read_refusal : ℕ → List ℕ → ℕ → ℕ
+read_refusal year file number = record_refusal year file number (right_at file number)
 
 -- what a read gives: its refusal number, and the eight fields
 pub record Reading : Type 0 where

@@ -3,3 +3,4 @@ pub mod RecordWords
 pub mod Faults
 pub mod InnerContracts
 pub mod Reader
+pub mod Writing

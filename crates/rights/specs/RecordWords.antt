@@ -1,10 +1,10 @@
--- A record by its two words: the eight fields cut from them, and the words and bytes that eight fields make.
+-- A record by its two words: the eight fields cut from them, and the words that eight fields make, whose bytes are the layout's.
 -- Assumes nothing.
 use Rattle.std.specs.Prelude.{ℕ, ◌+◌, ◌*◌, ◌^◌, ◌<◌, ◌≡◌, List, ◌++◌, get_or}
 use Rattle.numbers.specs.Lists.{list_below}
 use Rattle.numbers.specs.Words.{AreBytes, bytes_of, part_of, word}
 use Rattle.rights.specs.declared.Right.{Right}
-use Rattle.rights.specs.Layout.{right_from}
+use Rattle.rights.specs.Layout.{right_from, laid_out}
 
 -- "two 64-bit words of a record, low byte first" (Wish 5): the bytes 0 to 7, and the bytes 8 to 15
 abbrev pub low_word : List ℕ → ℕ → ℕ
@@ -39,10 +39,6 @@ low_of right =
 abbrev pub high_of : Right → ℕ
 high_of right = right.size + right.first * 256 ^ 4 + right.last * 256 ^ 6
 
--- and the 16 bytes of these
-unfoldable pub laid_out : Right → List ℕ
-laid_out right = bytes_of 8 (low_of right) ++ bytes_of 8 (high_of right)
-
 -- the eight fields in their widths: 16, 8 or 32 bits
 pub record InWidths (right : Right) : Type 0 where
   pub owner : right.owner < 2 ^ 16
@@ -53,6 +49,14 @@ pub record InWidths (right : Right) : Type 0 where
   pub size : right.size < 2 ^ 32
   pub first : right.first < 2 ^ 16
   pub last : right.last < 2 ^ 16
+
+-- the fields cut from the words that they made are those fields
+abbrev pub CutAsMade : Type 0
+CutAsMade = (right : Right) → InWidths right → right_of (low_of right) (high_of right) ≡ right
+
+-- the bytes of these words are the 16 bytes of the right
+abbrev pub LaidOutByWords : Type 0
+LaidOutByWords = (right : Right) → InWidths right → bytes_of 8 (low_of right) ++ bytes_of 8 (high_of right) ≡ laid_out right
 
 -- those bytes give the fields back
 abbrev pub LaidOutAsGiven : Type 0

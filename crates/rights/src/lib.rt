@@ -1,12 +1,13 @@
-// The rights file: 16-byte records, read by number, and the faults of a whole file.
+// The rights file: 16-byte records, read and written by number, and the faults of a whole file.
 
 #![tactic(auto)]
 
-ghost use Rattle.std.specs.Prelude.{◌≡◌, ◌+◌, ◌≤◌, length};
+ghost use Rattle.std.specs.Prelude.{◌≡◌, ◌++◌};
 ghost use Rattle.numbers.specs.Refusals.{answered};
-ghost use Rattle.numbers.specs.Words.{word};
-ghost use Rattle.rights.specs.Layout.{is_good, is_live, is_wrong_length, read_refusal, right_at, right_from};
+ghost use Rattle.numbers.specs.Words.{bytes_of};
+ghost use Rattle.rights.specs.Layout.{is_good, is_live, is_wrong_length, laid_out, read_refusal, record_refusal, right_at, right_from};
 ghost use Rattle.rights.specs.RecordWords.{high_word, low_word, right_of};
+ghost use Rattle.rights.specs.Writing.{file_after};
 ghost use Rattle.rights.specs.InnerContracts.{is_within_limits, other_class};
 ghost use Rattle.rights.specs.Faults.{faulty_record, file_refusal, is_unpriced};
 
@@ -20,6 +21,9 @@ pub use reader::Reader;
 pub const RECORD_BYTES: usize = 16;
 
 pub const FILE_BYTES: usize = 65_536;
+
+// The bytes of a word, of which a record has two.
+const WORD_BYTES: usize = 8;
 
 // The largest size of a right, in tenths of a megawatt.
 const MOST_SIZE: u32 = 100000;
@@ -78,6 +82,32 @@ impl Words {
     {
         let low = u64::from_le_bytes(*bytes.first_chunk().unwrap());
         let high = u64::from_le_bytes(*bytes.last_chunk().unwrap());
+        Words { low, high }
+    }
+
+    // The 16 bytes of the two words: the opposite of `from_le_bytes`.
+    fn to_le_bytes(self) -> [u8; RECORD_BYTES]
+        ensures { result ≡ bytes_of 8 self.low ++ bytes_of 8 self.high }
+    {
+        let mut bytes = [0; RECORD_BYTES];
+        bytes[..WORD_BYTES].copy_from_slice(&self.low.to_le_bytes());
+        bytes[WORD_BYTES..].copy_from_slice(&self.high.to_le_bytes());
+        bytes
+    }
+
+    // The two words that the fields of a right make, each in its own bytes: the opposite of `cut`. Their bytes are the layout's.
+    fn from_right(right: Right) -> Words
+        ensures fields { right_of result.low result.high ≡ right }
+        ensures bytes { bytes_of 8 result.low ++ bytes_of 8 result.high ≡ laid_out right }
+    {
+        let low = u64::from(right.owner)
+            + u64::from(right.source) * BYTES_2
+            + u64::from(right.sink) * BYTES_4
+            + u64::from(right.kind) * BYTES_6
+            + u64::from(right.class) * BYTES_7;
+        let high = u64::from(right.size)
+            + u64::from(right.first) * BYTES_4
+            + u64::from(right.last) * BYTES_6;
         Words { low, high }
     }
 
@@ -146,6 +176,29 @@ pub fn read(year: u64, file: &[u8], number: u64) -> Result<Right, Refusal>
     } else {
         Err(Refusal::BadRight(number))
     }
+}
+
+// Writes a right as the record of a number: any year, any bytes, any number, any eight values.
+pub fn write(year: u64, file: &mut [u8], number: u64, right: Right) -> Result<(), Refusal>
+    ensures value { result ≡ answered (record_refusal year file.old number right) number tt }
+    ensures file_after { file.new ≡ file_after year file.old number right }
+{
+    if calendar::is_outside(year) {
+        return Err(Refusal::NoSuchYear);
+    }
+    if wrong_length(file.len()) {
+        return Err(Refusal::WrongLength);
+    }
+    if (file.len() / RECORD_BYTES) as u64 <= number {
+        return Err(Refusal::WrongLength);
+    }
+    let words = Words::from_right(right);
+    if !words.is_good(calendar::days_in_year(year)) {
+        return Err(Refusal::BadRight(number));
+    }
+    let at = number as usize * RECORD_BYTES;
+    file[at..at + RECORD_BYTES].copy_from_slice(&words.to_le_bytes());
+    Ok(())
 }
 
 // Whether so many bytes can be no rights file.

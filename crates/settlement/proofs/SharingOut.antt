@@ -81,6 +81,26 @@ module _ (carry : ℕ) (fund : ℤ) (wants : List ℕ) (charges : ℕ) where
 
 -- ---- what is paid
 
+-- from any fund
+module _ (fund : ℤ) (wants : List ℕ) (long : length wants ≡ owners) {paid : Paid} {left : ℤ} (p : paid ≡ paid_from fund wants) (l : left ≡ paid.left) where
+  rest : left ≡ (paid_from fund wants).left
+  rest = l ∙ ap (λ (x : Paid). x.left) p
+
+  fund_is : paid.funding.fund ≡ fund
+  fund_is = ap (λ (x : Paid). x.funding.fund) p
+
+  demand_is : paid.funding.demand ≡ total wants
+  demand_is = ap (λ (x : Paid). x.funding.demand) p
+
+  -- what of it is not left
+  pub spent : (pos 0 ≤ℤ (paid.funding.fund -ℤ left)) × ((paid.funding.fund -ℤ left) ≤ℤ pos paid.funding.demand)
+  spent = (omega (arith, ints, payout_closes fund wants, rest, fund_is), omega (arith, ints, unpaid_is fund wants long, rest, fund_is, demand_is))
+
+  -- what is unpaid in all
+  pub unpaid_total : (unpaid : ℕ) → pos unpaid +ℤ (paid.funding.fund -ℤ left) ≡ pos paid.funding.demand → unpaid ≡ total (paid_from fund wants).unpaid
+  unpaid_total unpaid is = omega (arith, ints, is, unpaid_is fund wants long, rest, fund_is, demand_is)
+
+-- from the fund of an hour
 module _ (collected : ℤ) (targets : List ℤ) where
   abbrev due : Paid
   due = paid_from (hour_fund collected targets) (hour_wants targets)
@@ -89,29 +109,6 @@ module _ (collected : ℤ) (targets : List ℤ) where
   pub paid_is : {wants : List ℕ} {charges : ℕ} {paid : Paid} → wants ≡ hour_wants targets → charges ≡ hour_charges targets
       → paid ≡ paid_from (collected +ℤ pos charges) wants → paid ≡ due
   paid_is w c p = p ∙ ap₂ (λ (x : ℕ) (ws : List ℕ). paid_from (collected +ℤ pos x) ws) c w
-
-  module _ {paid : Paid} {left : ℤ} (p : paid ≡ due) (l : left ≡ paid.left) where
-    rest : left ≡ due.left
-    rest = l ∙ ap (λ (x : Paid). x.left) p
-
-    fund_is : paid.funding.fund ≡ due.funding.fund
-    fund_is = ap (λ (x : Paid). x.funding.fund) p
-
-    demand_is : paid.funding.demand ≡ total (hour_wants targets)
-    demand_is = ap (λ (x : Paid). x.funding.demand) p
-
-    -- what of F is not left
-    pub spent : (pos 0 ≤ℤ (paid.funding.fund -ℤ left)) × ((paid.funding.fund -ℤ left) ≤ℤ pos paid.funding.demand)
-    spent =
-        let closes = payout_closes (hour_fund collected targets) (hour_wants targets) in
-        let all = unpaid_is (hour_fund collected targets) (hour_wants targets) (wants_length targets) in
-        (omega (arith, ints, closes, rest, fund_is), omega (arith, ints, all, rest, fund_is, demand_is))
-
-    -- what is unpaid in all
-    pub unpaid_total : (unpaid : ℕ) → pos unpaid +ℤ (paid.funding.fund -ℤ left) ≡ pos paid.funding.demand → unpaid ≡ total due.unpaid
-    unpaid_total unpaid is =
-        let all = unpaid_is (hour_fund collected targets) (hour_wants targets) (wants_length targets) in
-        omega (arith, ints, is, all, rest, fund_is, demand_is)
 
   -- what is answered by the number
   module _ (carry : ℕ) where

@@ -19,7 +19,8 @@ use Rattle.settlement.specs.Events.{result_of, Call, hour_call, month_end_call, 
 use Rattle.settlement.proofs.ByOwner.{read_long}
 use Rattle.settlement.proofs.Shares.{IsLong}
 use Rattle.settlement.proofs.Refusing.{gives_number, gives_record, gives_book_lem}
-use Rattle.statement_text.specs.Buffer.{written, end_after, text_after}
+use Rattle.numbers.specs.Lists.{written}
+use Rattle.statement_text.specs.Buffer.{end_after, text_after}
 use Rattle.statement_text.specs.InnerContracts.{Wrote}
 use Rattle.statement_text.specs.Text.{text_of, event_lines, event_room}
 use Rattle.statement_text.proofs.Lines.{text_none}

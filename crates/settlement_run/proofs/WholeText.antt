@@ -11,9 +11,10 @@ use borrow.Author.Tests.{ltb-true, ltb-false}
 use Rattle.settlement.specs.ByOwner.{read_off}
 use Rattle.settlement.proofs.ByOwner.{read_long}
 use Rattle.settlement.proofs.Shares.{IsLong}
-use Rattle.statement_text.specs.Buffer.{written, text_after, end_after}
+use Rattle.numbers.specs.Lists.{written}
+use Rattle.statement_text.specs.Buffer.{text_after, end_after}
 use Rattle.statement_text.specs.Text.{text_of, line_room}
-use Rattle.statement_text.proofs.Pieces.{front}
+use Rattle.numbers.proofs.Written.{front}
 use Rattle.statement_text.proofs.Room.{with_room, without_room}
 use Rattle.statement_text.proofs.Lines.{text_none, text_append, text_one}
 use Rattle.settlement_run.specs.declared.Run.{Run}

@@ -8,9 +8,10 @@ use native.Mathlib.Omega.{arith}
 use lib.ListN.{length}
 use lib.Dec.{leb}
 use borrow.Author.Tests.{leb-true, leb-false, le-leb, lt-leb}
-use Rattle.statement_text.specs.Buffer.{written, text_after, end_after}
+use Rattle.numbers.specs.Lists.{written}
+use Rattle.statement_text.specs.Buffer.{text_after, end_after}
 use Rattle.statement_text.specs.InnerContracts.{Wrote}
-use Rattle.statement_text.proofs.Pieces.{written_reaches}
+use Rattle.numbers.proofs.Written.{written_reaches}
 
 module _ (room : ℕ) (text before : List ℕ) (at : ℕ) where
   pub with_room : (after : List ℕ) (end : ℕ) → at + room ≤ length before → Wrote text before at after end

@@ -1,10 +1,7 @@
 -- Text in a lent buffer: what stands in it after a text is written at a place, and where that text ends.
 -- Assumes nothing.
-use Rattle.std.specs.Prelude.{ℕ, ◌+◌, cond, List, ◌++◌, leb, length, take, drop}
-
--- the buffer with a text written over it from a place on
-unfoldable pub written : List ℕ → ℕ → List ℕ → List ℕ
-written before at text = take at before ++ (text ++ drop (at + length text) before)
+use Rattle.std.specs.Prelude.{ℕ, ◌+◌, cond, List, leb, length}
+use Rattle.numbers.specs.Lists.{written}
 
 -- a call that asks for so much room behind its place: with that room it writes the text and gives its end; without it the buffer stays
 -- as it was, and the end is the place

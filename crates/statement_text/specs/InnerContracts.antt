@@ -2,7 +2,7 @@
 -- letter and numbers, and the room that the parts of a sentence ask for.
 -- Assumes nothing.
 use Rattle.std.specs.Prelude.{ℕ, ℤ, ◌+◌, ◌≤◌, ◌≡◌, List, [], ◌∷◌, ◌++◌, length, flat_map}
-use Rattle.statement_text.specs.Buffer.{written}
+use Rattle.numbers.specs.Lists.{written}
 use Rattle.statement_text.specs.Text.{newline, signed_field}
 use Rattle.statement_text.specs.declared.lent.Text.{Text}
 

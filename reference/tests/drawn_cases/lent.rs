@@ -1,5 +1,6 @@
 //! The cells that a call is lent to write, before and after it.
 
+use reference::rights::RECORD;
 use reference::words::{BookWords, LentText, CLOSED, STEPPED};
 
 /// A row of cells: those lent, and some behind them that no call may touch.
@@ -29,6 +30,8 @@ impl<T: Copy> Row<T> {
 /// All that a call may be lent to write; a row that it is not lent is empty.
 #[derive(Clone, Default, PartialEq, Eq)]
 pub struct Lent {
+    /// The rights file of a write; the other calls only read theirs.
+    pub rights: Row<u8>,
     pub counts: Row<u64>,
     pub shortfalls: Row<u64>,
     pub balances: Row<i64>,
@@ -97,8 +100,9 @@ impl Lent {
         self.run_cells(end).1
     }
 
-    fn rows(&self) -> [Plain; 8] {
+    fn rows(&self) -> [Plain; 9] {
         [
+            plain("rights", &self.rights),
             plain("counts", &self.counts),
             plain("shortfalls", &self.shortfalls),
             plain("balances", &self.balances),
@@ -150,6 +154,7 @@ fn cell_name(row: &str, lent: usize, at: usize) -> String {
         ("shortfalls", _) if at % 2 == 0 => format!("owner {} month shortfall", at / 2),
         ("shortfalls", _) => format!("owner {} year shortfall", at / 2),
         ("table", _) => format!("day {}", at + 1),
+        ("rights", _) => format!("record {}, byte {}", at / RECORD, at % RECORD),
         _ => format!("{row} {at}"),
     }
 }
@@ -160,7 +165,8 @@ fn table_line(name: &str, cells: [String; 3], mark: &str) -> String {
     format!("{name:28}{before:>22}{library:>22}{second:>22}{mark}\n")
 }
 
-/// The cells of a row side by side, but for those that are 0 throughout.
+/// The cells of a row side by side, but for those that are 0 throughout, and of a file
+/// those that stay.
 fn row_table(rows: [Plain; 3]) -> String {
     let [(name, lent, before), (_, _, library), (_, _, second)] = rows;
     let count = format!("{lent} lent");
@@ -169,7 +175,8 @@ fn row_table(rows: [Plain; 3]) -> String {
         let cells = [before, library[at], second[at]];
         let same = library[at] == second[at];
         let mark = if same { "" } else { "  <- differs" };
-        if cells != [0; 3] {
+        let unlisted = if name == "rights" { before } else { 0 };
+        if cells != [unlisted; 3] {
             let name = format!("  {}", cell_name(name, lent, at));
             text += &table_line(&name, cells.map(|cell| cell.to_string()), mark);
         }
@@ -211,5 +218,5 @@ pub fn table(before: &Lent, library: &Given, second: &Given) -> String {
     if !before.text.cells.is_empty() {
         text += &text_table(&before.text, &library.lent.text, &second.lent.text);
     }
-    text + "(cells not listed are 0 before and after)"
+    text + "(cells not listed are 0 before and after, or bytes of rights that stay)"
 }

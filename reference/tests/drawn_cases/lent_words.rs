@@ -1,7 +1,7 @@
 //! What is looked at before the library is called, whatever else is lent: a year
 //! outside is refused with 15 "before all else", but for counts that have no year, and
-//! after that a report or a book of another number of words with 4; and the opening of
-//! a book.
+//! after that a report, a book or a right of another number of words with 4; and the
+//! opening of a book.
 
 use reference::book::{Book, HourInput};
 use reference::calendar::calendar_of;
@@ -18,13 +18,14 @@ use crate::drawn::{
 };
 use crate::lent::{Given, Lent, Row};
 use crate::library;
-use crate::read::{compare_read, draw_file, Place};
+use crate::read::{compare_read, draw_file, draw_good, Place};
 use crate::reader::compare_step;
 use crate::rows::compare_rows;
 use crate::single_events::compare_event;
 use crate::split::compare_split;
 use crate::steps::{compare_block, compare_closing, draw_block, Block, Step};
 use crate::targets::{compare_targets, Asked};
+use crate::write::{compare_write, Writing};
 
 /// A number of words that is not the one named.
 fn wrong(draws: &mut Draws, words: usize) -> usize {
@@ -82,7 +83,19 @@ fn compare_calendar_calls(case: &mut Case, year: u64, hour: u64) {
     refused_untouched(refusal, &compare_days(case, year, &lent), &lent);
 }
 
-/// The read, the reader's step, the target call and the row call.
+/// The write, with a right of a wrong number of words.
+fn compare_right_words(case: &mut Case, place: Place) {
+    let draws = &mut case.draws;
+    let words = wrong(draws, words::RIGHT);
+    let right = draw_good(draws, days_of(place.year));
+    let right = Row::lent(&words::right_words(&right), words, || 0);
+    let refusal = refusal_in(place.year);
+    let writing = Writing { place, right };
+    let given = compare_write(case, &writing);
+    refused_untouched(refusal, &given, &writing.lend());
+}
+
+/// The read, the write, the reader's step, the target call and the row call.
 fn compare_rights_calls(case: &mut Case, year: u64, hour: u64) {
     let refusal = refusal_in(year);
     let place = Place {
@@ -94,6 +107,7 @@ fn compare_rights_calls(case: &mut Case, year: u64, hour: u64) {
     refused_untouched(refusal, &compare_read(case, &place, &lent), &lent);
     let lent = wrong_report(&mut case.draws, words::STEP);
     refused_untouched(refusal, &compare_step(case, &place, &lent), &lent);
+    compare_right_words(case, place);
     let market = any_market(&mut case.draws, year);
     let asked = Asked { year, market, hour };
     let mut lent = wrong_report(&mut case.draws, words::OUTCOME);
@@ -428,6 +442,7 @@ fn numbers_of_words() {
             ("calendar", &[4, 15]),
             ("days", &[4, 15]),
             ("read", &[4, 15]),
+            ("write", &[4, 15]),
             ("next", &[4, 15]),
             ("targets", &[4, 15]),
             ("rows", &[4, 15]),

@@ -27,6 +27,14 @@ extern "C" {
         report: *mut u64,
         report_words: usize,
     ) -> u8;
+    fn pupcopper_write(
+        year: u64,
+        rights: *mut u8,
+        rights_bytes: usize,
+        record: u64,
+        right: *const u64,
+        right_words: usize,
+    ) -> u8;
     fn pupcopper_next(
         year: u64,
         rights: *const u8,
@@ -200,6 +208,20 @@ pub fn read(year: u64, rights: &[u8], record: u64, report: &mut [u64]) -> u64 {
             record,
             report.as_mut_ptr(),
             report.len(),
+        )
+    };
+    u64::from(refusal)
+}
+
+pub fn write(year: u64, rights: &mut [u8], record: u64, right: &[u64]) -> u64 {
+    let refusal = unsafe {
+        pupcopper_write(
+            year,
+            rights.as_mut_ptr(),
+            rights.len(),
+            record,
+            right.as_ptr(),
+            right.len(),
         )
     };
     u64::from(refusal)

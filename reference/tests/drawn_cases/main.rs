@@ -34,3 +34,4 @@ mod split;
 mod steps;
 mod targets;
 mod worked_examples;
+mod write;

@@ -45,7 +45,7 @@ pub fn draw_file(draws: &mut Draws, year: u64) -> Row<u8> {
     draw_rights(draws, &shape)
 }
 
-fn draw_record(draws: &mut Draws, records: u64) -> u64 {
+pub fn draw_record(draws: &mut Draws, records: u64) -> u64 {
     let near_end = (records + 1).saturating_sub(draws.below(3));
     match draws.below(8) {
         0 => near_end,
@@ -95,9 +95,9 @@ fn any_record() {
     });
 }
 
-fn draw_good(draws: &mut Draws, days: u64) -> [u8; RECORD] {
+pub fn draw_good(draws: &mut Draws, days: u64) -> Right {
     let (source, first) = (draws.below(1_024), draws.below(days) + 1);
-    encode(&Right {
+    Right {
         owner: draws.below(64),
         source,
         sink: (source + 1 + draws.below(1_023)) % 1_024,
@@ -106,7 +106,7 @@ fn draw_good(draws: &mut Draws, days: u64) -> [u8; RECORD] {
         size: draws.below(100_000) + 1,
         first,
         last: first + draws.below(days + 1 - first),
-    })
+    }
 }
 
 /// A good record, and each of its bytes in turn as each of the 256 values. A
@@ -121,7 +121,7 @@ fn each_byte_of_a_record() {
     };
     kind.run(|case| {
         let year = draw_good_year(&mut case.draws);
-        let good = draw_good(&mut case.draws, days_of(year));
+        let good = encode(&draw_good(&mut case.draws, days_of(year)));
         let lent = Lent {
             report: old_words(&mut case.draws, words::RIGHT),
             ..Lent::default()

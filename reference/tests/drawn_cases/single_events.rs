@@ -16,17 +16,22 @@ use crate::library;
 
 /// Runs an event on both sides, each on the words of the book lent.
 pub fn compare_event(case: &mut Case, event: Event, lent: &Lent) -> Given {
+    compare_event_over(case, [event, event], lent)
+}
+
+/// The same where each side has its own input: first the library's.
+pub fn compare_event_over(case: &mut Case, [ours, theirs]: [Event; 2], lent: &Lent) -> Given {
     case.compare(
-        name_of(event),
-        &event,
+        name_of(theirs),
+        &theirs,
         lent,
         |lent| {
             let (book, lines, report) = lent.event_cells();
-            library::settle(book, event, lines, report)
+            library::settle(book, ours, lines, report)
         },
         |lent| {
             let (mut book, lines, report) = lent.event_cells();
-            book.settle(event, lines, report)
+            book.settle(theirs, lines, report)
         },
     )
 }

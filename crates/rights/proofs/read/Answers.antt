@@ -1,27 +1,26 @@
--- Each return rewrites the table with the tests that led there.
+-- Each return has the row of the table that its tests lead to.
 use Rattle.std.proofs.Common.{◌≡◌, ◌<◌, ℕ, List, [], get_or, length, Ok, sym, ap, ap₂, ◌∙◌, arith}
-use Rattle.std.proofs.lemmas.Bool.{le-leb, ltb-false}
-use Rattle.numbers.specs.Refusals.{first_refusal}
-use Rattle.rights.specs.Layout.{record_count, right_from, is_good, read_refusal}
+use Rattle.std.proofs.lemmas.Bool.{ltb-false}
+use Rattle.rights.specs.Layout.{record_count, right_from, is_good}
 use Rattle.std.proofs.lemmas.List.{get_or_read_under}
-use Rattle.rights.proofs.Readings.{answered_good, answered_bad}
+use Rattle.rights.proofs.RecordCalls.{record_15, record_wrong, record_past}
+use Rattle.rights.proofs.Readings.{answered_by, answered_good, answered_bad}
 use Rattle.rights.proofs.RecordWords.{cut_right}
 use Rattle.rights.proofs.read.Goals as goal
 
 pub returns-then-is_outside : goal.returns-then-is_outside
-unfolding read_refusal first_refusal
-returns-then-is_outside c = rw (sym c.is_outside.ensures ∙ c.if-is_outside.true)
+returns-then-is_outside c = sym (answered_by _ _ _ (record_15 _ _ _ _ (sym c.is_outside.ensures ∙ c.if-is_outside.true)))
 
 pub returns-then-wrong_length : goal.returns-then-wrong_length
-unfolding read_refusal first_refusal
 returns-then-wrong_length c =
-    rw (sym c.is_outside.ensures ∙ c.if-is_outside.false, sym c.wrong_length.ensures ∙ c.if-wrong_length.true)
+    sym
+    (answered_by _ _ _ (record_wrong _ _ _ _ (sym c.is_outside.ensures ∙ c.if-is_outside.false) (sym c.wrong_length.ensures ∙ c.if-wrong_length.true)))
 
 pub returns-in_default : goal.returns-in_default
-unfolding read_refusal first_refusal
 returns-in_default c =
-    rw
-    (sym c.is_outside.ensures ∙ c.if-is_outside.false, sym c.wrong_length.ensures ∙ c.if-wrong_length.false, le-leb (record_count c.args.file.now) c.args.number (omega (arith, ltb-false _ _ (sym c.in_default.ensures.lookup.0))))
+    sym
+    (answered_by _ _ _
+    (record_past _ _ _ _ (sym c.is_outside.ensures ∙ c.if-is_outside.false) (sym c.wrong_length.ensures ∙ c.if-wrong_length.false) (omega (arith, ltb-false _ _ (sym c.in_default.ensures.lookup.0)))))
 
 -- the record that was cut is the file's
 module _ (file : List ℕ) (number : ℕ) (inside : number < record_count file) where

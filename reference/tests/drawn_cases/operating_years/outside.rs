@@ -15,6 +15,7 @@ use crate::read::{compare_read, Place};
 use crate::reader::compare_step;
 use crate::single_events::compare_event;
 use crate::steps::{compare_block, Block, Step};
+use crate::write::{compare_write, Writing};
 
 /// Asks in 2025, which gives this, and with each year outside.
 fn check(in_2025: u64, outside: u64, mut ask: impl FnMut(u64) -> u64) {
@@ -109,6 +110,48 @@ fn reads_and_steps_of_a_reader() {
                 }
                 given.refusal
             });
+        }
+    });
+}
+
+/// The first words are a good right, but for this owner.
+fn right(owner: u64, count: usize) -> Row<u64> {
+    Row::lent(&[owner, 0, 1, 0, 2, 10, 1, 365], count, || 0)
+}
+
+/// Of a right of eight words and of another number, of a good one and of a bad one.
+#[test]
+fn writes() {
+    let kind = Kind {
+        test: "operating_years::outside::writes",
+        base: None,
+        cases: 1,
+        refusals: &[("write", &[0, 4, 7, 15])],
+    };
+    // The bytes and the record number; what a good right gives, and a bad one.
+    let places = [
+        ((32, 0), 0, 7),
+        ((32, 1), 0, 7),
+        ((32, 2), 4, 4),
+        ((32, 1 << 60), 4, 4),
+        ((32, u64::MAX), 4, 4),
+        ((0, 0), 4, 4),
+        ((31, 0), 4, 4),
+        ((LONGEST, 4_095), 0, 7),
+        ((LONGEST, 4_096), 4, 4),
+        ((LONGEST + 16, 0), 4, 4),
+    ];
+    kind.run(|case| {
+        for ((bytes, record), good, bad) in places {
+            for (owner, refusal) in [(63, good), (64, bad), (65_536 + 7, bad)] {
+                for (words, refusal) in [(8, refusal), (0, 4), (7, 4), (9, 4)] {
+                    check(refusal, 15, |year| {
+                        let place = place(year, bytes, record);
+                        let right = right(owner, words);
+                        compare_write(case, &Writing { place, right }).refusal
+                    });
+                }
+            }
         }
     });
 }

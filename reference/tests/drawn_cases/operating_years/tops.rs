@@ -20,6 +20,7 @@ use crate::rows::compare_rows;
 use crate::single_events::compare_event;
 use crate::steps::{compare_block, Block, Step};
 use crate::targets::{compare_targets, lend_lines, Asked};
+use crate::write::{compare_write, Writing};
 
 /// Years and their days; of one outside there are none.
 const YEARS: [(u64, Option<u64>); 12] = [
@@ -123,9 +124,9 @@ fn compare_next_hour(case: &mut Case, book: &Book, right: &Right) -> Given {
     compare_event(case, event, &lent)
 }
 
-/// The refusals of a read, a reader's step, a target call, a row call, an hour and a
-/// step over one right.
-fn compare_right(case: &mut Case, year: u64, right: &Right) -> [u64; 6] {
+/// The refusals of a read, a reader's step, a write, a target call, a row call, an hour
+/// and a step over one right.
+fn compare_right(case: &mut Case, year: u64, right: &Right) -> [u64; 7] {
     let rights = Row::lent(&encode(right), 16, || 0);
     let report = |case: &mut Case, words| Lent {
         report: old_words(&mut case.draws, words),
@@ -140,6 +141,14 @@ fn compare_right(case: &mut Case, year: u64, right: &Right) -> [u64; 6] {
     let read = compare_read(case, &place, &lent);
     let lent = report(case, words::STEP);
     let next = compare_step(case, &place, &lent);
+    let words = Row::lent(&words::right_words(right), words::RIGHT, || 0);
+    let write = compare_write(
+        case,
+        &Writing {
+            place,
+            right: words,
+        },
+    );
     let asked = Asked::over_in(year, &[*right], &PRICES, 30);
     let lent = lend_lines(&mut case.draws, 64, OUTCOME);
     let targets = compare_targets(case, &asked, &lent);
@@ -153,7 +162,7 @@ fn compare_right(case: &mut Case, year: u64, right: &Right) -> [u64; 6] {
     let bytes = Row::lent(&bytes, bytes.len(), || 0);
     let block = Block { rights, bytes };
     let step = compare_block(case, &Step { block, end: 0 }, &lent);
-    [read, next, targets, rows, hour, step].map(|given| given.refusal)
+    [read, next, write, targets, rows, hour, step].map(|given| given.refusal)
 }
 
 /// Those of 365, 366 and 367; the seed is the year's place above.
@@ -166,6 +175,7 @@ fn last_days() {
         refusals: &[
             ("read", &[0, 7, 15]),
             ("next", &[0, 7, 15]),
+            ("write", &[0, 7, 15]),
             ("targets", &[0, 7, 15]),
             ("rows", &[0, 7, 15]),
             ("hour", &[0, 7, 15]),
@@ -187,7 +197,7 @@ fn last_days() {
                     Some(_) => 0,
                 };
                 let given = compare_right(case, year, &right);
-                assert_eq!(given, [refusal; 6], "{year}, {first} to {last}");
+                assert_eq!(given, [refusal; 7], "{year}, {first} to {last}");
             }
         }
     });

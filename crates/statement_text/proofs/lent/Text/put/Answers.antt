@@ -1,6 +1,6 @@
 -- The piece is copied over its part of the buffer.
 use Rattle.std.proofs.Common.{refl, arith}
-use Rattle.statement_text.proofs.Pieces.{put_mid_written, put_mid_length}
+use Rattle.numbers.proofs.Written.{put_mid_written, put_mid_length}
 use Rattle.statement_text.proofs.lent.Text.put.Goals as goal
 
 pub returns : goal.returns
