@@ -18,8 +18,22 @@ const RIGHTS_ROOM: usize = rights::FILE_BYTES + 1;
 // The text that is gathered before it is written out.
 const TEXT_ROOM: usize = 65536;
 
+// The blocks that are read at once: a system call for each would be a good part of an hour without rights.
+const BLOCKS_READ: usize = 16;
+
+const INPUT_ROOM: usize = BLOCKS_READ * hour_block::HOUR_BYTES;
+
 // The exit status where the statement could not be written out whole.
 const NOT_WHOLE: u8 = 2;
+
+// The bytes of the rights file, behind a word that keeps them at a multiple of 8: so no word of a record crosses a cache line, which would be
+// two reads in the loop that takes the time.
+#[repr(C)]
+#[derive(Drop)]
+struct RightsRoom {
+    before: u64,
+    bytes: [u8; RIGHTS_ROOM],
+}
 
 // The statement as far as it has come: where the run stands, and its text that is still to be written out.
 #[derive(Drop)]
@@ -31,8 +45,11 @@ struct Statement {
 }
 
 fn main(rt: HostRuntime) -> ExitCode {
-    let mut room = [0u8; RIGHTS_ROOM];
-    let file = read_rights(&rt, &mut room);
+    let mut room = RightsRoom {
+        before: 0,
+        bytes: [0u8; RIGHTS_ROOM],
+    };
+    let file = read_rights(&rt, &mut room.bytes);
     let rights = file.unwrap_or(&[]);
     let mut statement = Statement {
         run: settlement_run::opening(file.map(|bytes| bytes.len())),
@@ -92,21 +109,38 @@ impl Statement {
         self.write_out(output)
     }
 
-    // Settles block after block, at most one more than the year has hours: over that many every run has stopped (theorem enough_blocks).
+    // Reads 16 blocks at once and settles them, until more are read than the year has hours: over that many every run has stopped (theorem
+    // enough_blocks).
     fn settle_year(
         &mut self,
         input: &mut impl Read,
         output: &mut impl Write,
         rights: &[u8],
     ) -> io::Result<()> {
-        let mut room = [0u8; hour_block::HOUR_BYTES];
-        for _ in 0..=calendar::hours_in_year(settlement_run::PROGRAM_YEAR) {
+        let mut room = [0u8; INPUT_ROOM];
+        for _ in (0..=calendar::hours_in_year(settlement_run::PROGRAM_YEAR)).step_by(BLOCKS_READ) {
             if self.run.refusal != 0 {
                 break;
             }
-            // The last block may be short.
-            let block = read_full(input, &mut room);
-            if block.is_empty() {
+            let blocks = read_full(input, &mut room);
+            self.settle_blocks(output, rights, blocks)?;
+            // Where there is room left, the input has ended or cannot be read.
+            if blocks.len() < INPUT_ROOM {
+                break;
+            }
+        }
+        Ok(())
+    }
+
+    // Settles block after block, until the run has stopped. The last block of the input may be short.
+    fn settle_blocks(
+        &mut self,
+        output: &mut impl Write,
+        rights: &[u8],
+        blocks: &[u8],
+    ) -> io::Result<()> {
+        for block in blocks.chunks(hour_block::HOUR_BYTES) {
+            if self.run.refusal != 0 {
                 break;
             }
             self.settle_block(output, rights, block)?;

@@ -1,4 +1,4 @@
-// Sums of any amounts. The amounts could wrap a 64-bit sum, so that a capped one stops at its cap.
+// Sums of any amounts. The amounts could wrap a 64-bit sum, so that a capped one stops at its cap or is made in 128 bits.
 ghost use Rattle.std.specs.Prelude.{◌+◌, min, ◌≡◌};
 ghost use Rattle.numbers.specs.Lists.{total};
 
@@ -9,14 +9,14 @@ pub fn plus_capped(cap: u64, sum: u64, amount: u64) -> u64
     sum.saturating_add(amount).min(cap)
 }
 
-// A sum and all these amounts, or the cap where that is less. A sum or none would be no plainer: month and year
-// cells are two sums in a row, the second of which begins with the first, and the loop needs the same cap inside.
+// A sum and all these amounts, or the cap where that is less. No slice has 2^64 amounts, so that their sum fits 128
+// bits: the loop has no test, and the cap comes once, at its end.
 pub fn capped_total(cap: u64, before: u64, amounts: &[u64]) -> u64
     ensures { result ≡ min (before + total amounts.now) cap }
 {
-    let mut sum = before.min(cap);
+    let mut sum = u128::from(before);
     for amount in amounts {
-        sum = plus_capped(cap, sum, *amount);
+        sum += u128::from(*amount);
     }
-    sum
+    sum.min(u128::from(cap)) as u64
 }

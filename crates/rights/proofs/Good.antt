@@ -54,6 +54,14 @@ module _ (days : ℕ) (right : Right) (good : is_good days right ≡ true) where
       let sink = ltb-true right.sink nodes priced.1 in
       rw (lt-leb prices right.source (omega arith), lt-leb prices right.sink (omega arith))
 
+  -- its days are in their order
+  pub days_in_order : (1 ≤ right.first) × (right.first ≤ right.last)
+  days_in_order =
+      let days_good = both_true (leb 1 right.first && leb right.first right.last) (leb right.last days)
+      (both_true (good_owner right && good_nodes right && good_kind right && good_size right) (good_days days right) good).1 in
+      let first_good = both_true (leb 1 right.first) (leb right.first right.last) days_good.0 in
+      (leb-true 1 right.first first_good.0, leb-true right.first right.last first_good.1)
+
   -- its fields are small
   pub good_small : days ≤ 366 → Small right
   good_small few =

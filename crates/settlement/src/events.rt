@@ -16,8 +16,8 @@ use crate::{
 use numbers::{OWNERS, Refusal};
 
 impl Book {
-    // Settles the next hour. Its parameters are those of the public call: a struct would be made and taken apart once.
-    pub(crate) fn settle_hour(
+    // The next hour, as `hour`, on the book in place. Its parameters are those of `hour`: a struct would be made and taken apart once.
+    pub fn settle_hour(
         &mut self,
         rights: &[u8],
         prices: &[i32],
@@ -34,8 +34,8 @@ impl Book {
         Ok(paid.funding)
     }
 
-    // Pays the shortfalls of a month or of the year from its balance.
-    pub(crate) fn pay_short(&mut self, end: End, lines: &mut [i64]) -> Result<Funding, Refusal>
+    // The month end or the year end, as `close`, on the book in place: pays the shortfalls of a month or of the year from its balance.
+    pub fn pay_short(&mut self, end: End, lines: &mut [i64]) -> Result<Funding, Refusal>
         ensures { AnsweredByOwner (end_call end) self.old lines.old result self.new lines.new }
     {
         refusals::of_event(self, end.into(), lines.len())?;

@@ -4,10 +4,8 @@ use Prim.Native.Nat.{ℕ}
 use mathlib.Core.Path.{◌≡◌, refl, sym, ap}
 use mathlib.Core.Bool.{Bool, false}
 use mathlib.Core.List.{List, []}
-use lib.ListN.{length}
 use Rattle.numbers.specs.Limits.{owners}
 use Rattle.settlement.specs.Book.{Book}
-use Rattle.settlement.specs.ByOwner.{cell_count}
 use Rattle.settlement.specs.Events.{Call, refusal, book_after}
 use Rattle.settlement.proofs.ByOwner.{read_back, laid_back, read_long}
 use Rattle.settlement.proofs.SameCells.{fresh_long, long_after}
@@ -15,11 +13,11 @@ use Rattle.settlement.proofs.Shares.{IsLong}
 use Rattle.settlement_run.specs.declared.Run.{Run}
 use Rattle.settlement_run.specs.Run.{Part, stops, program_year, opening}
 use Rattle.settlement_run.specs.Calls.{begun, standing, run_at, stepped}
-use Rattle.settlement_run.specs.InnerContracts.{ending}
+use Rattle.settlement_run.specs.InnerContracts.{ending, HasCells}
 use Rattle.settlement_run.proofs.BookAfter.{then_keeps, part_keeps}
 
 -- a run whose book has its 128 cells stands where it stood, told of the room and of the end of its text
-pub told_back : (run : Run) {full found : Bool} {end at : ℕ} → length run.book.shortfalls ≡ cell_count → full ≡ found → end ≡ at
+pub told_back : (run : Run) {full found : Bool} {end at : ℕ} → HasCells run → full ≡ found → end ≡ at
     → ◌≡◌ {A = Run}
     (record { full = full; end = end; refusal = run.refusal; tag = run.tag; number = run.number; faulty = run.faulty; book = run.book })
     (run_at (standing run) found at)
@@ -35,7 +33,7 @@ told_back run all is ends =
       book = sym (laid_back run.book all) i;
     }
 
-pub put_back : (run : Run) → length run.book.shortfalls ≡ cell_count → run_at (standing run) run.full run.end ≡ run
+pub put_back : (run : Run) → HasCells run → run_at (standing run) run.full run.end ≡ run
 put_back run all = sym (told_back run all refl refl)
 
 -- a part whose book has a cell for each owner

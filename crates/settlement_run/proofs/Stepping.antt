@@ -9,7 +9,7 @@ use lib.ListN.{length}
 use lib.Dec.{leb}
 use borrow.Author.Tests.{ltb-true, ltb-false, leb-true, leb-false, lt-ltb, le-ltb}
 use Rattle.settlement.specs.Book.{Book}
-use Rattle.settlement.specs.ByOwner.{cell_count, read_off}
+use Rattle.settlement.specs.ByOwner.{read_off}
 use Rattle.settlement.specs.Events.{month_end_call, year_end_call}
 use Rattle.statement_text.specs.Buffer.{end_after}
 use Rattle.statement_text.specs.InnerContracts.{Wrote}
@@ -20,7 +20,7 @@ use Rattle.statement_text.proofs.Room.{with_room, without_room}
 use Rattle.settlement_run.specs.declared.Run.{Run}
 use Rattle.settlement_run.specs.Run.{Part, and_then, if_due, hour_part, step_part}
 use Rattle.settlement_run.specs.Calls.{step_room, lacks_room, standing, run_at, stepped, stepped_run, stepped_text}
-use Rattle.settlement_run.specs.InnerContracts.{StandsAt, Appended}
+use Rattle.settlement_run.specs.InnerContracts.{StandsAt, HasCells, Appended}
 use Rattle.settlement_run.proofs.Parts.{adds, stands_next}
 use Rattle.settlement_run.proofs.Appending.{SameEnd, appended_stopped, same_next}
 use Rattle.settlement_run.proofs.Standing.{put_back}
@@ -51,7 +51,7 @@ pub lacks_said : {has : Bool} (room bytes at : ℕ) → has ≡ leb (at + room) 
 lacks_said {has = true} room bytes at is = sym (le-ltb bytes (at + room) (leb-true _ _ (sym is)))
 lacks_said {has = false} room bytes at is = sym (lt-ltb bytes (at + room) (leb-false _ _ (sym is)))
 
-module _ (file block : List ℕ) (run : Run) (before : List ℕ) (all : length run.book.shortfalls ≡ cell_count) where
+module _ (file block : List ℕ) (run : Run) (before : List ℕ) (all : HasCells run) where
   abbrev lacks : Bool
   lacks = lacks_room step_room (length before) run.end
 
@@ -73,7 +73,7 @@ module _ (file block : List ℕ) (run : Run) (before : List ℕ) (all : length r
       }
 
   -- a run with the end and the place of a step, by the room
-  as_stepped : (full : Bool) → lacks ≡ full → {result : Run} → length result.book.shortfalls ≡ cell_count → result.full ≡ lacks
+  as_stepped : (full : Bool) → lacks ≡ full → {result : Run} → HasCells result → result.full ≡ lacks
       → result.end ≡ end_after step_room (text_of (stepped file block run).printed) before run.end
       → StandsAt (cond full (standing run) (stepped file block run)) result → result ≡ stepped_run file block run before
   as_stepped full is {result} cells same ends stands =
@@ -93,7 +93,7 @@ module _ (file block : List ℕ) (run : Run) (before : List ℕ) (all : length r
     pub enough : run.end + step_room ≤ length before
     enough = ltb-false (length before) (run.end + step_room) (sym is ∙ room)
 
-    with_text : (result : Run) (after : List ℕ) → length result.book.shortfalls ≡ cell_count → result.full ≡ full → Reached (stepped file block run) before run.end result after
+    with_text : (result : Run) (after : List ℕ) → HasCells result → result.full ≡ full → Reached (stepped file block run) before run.end result after
         → IsStepped result after
     with_text result after cells same reached =
         let says = with_room step_room (text_of (stepped file block run).printed) before run.end after result.end enough reached.wrote in
@@ -107,13 +107,12 @@ module _ (file block : List ℕ) (run : Run) (before : List ℕ) (all : length r
 
     -- the hour, the month end and the year end, one behind another
     pub step_settled : run.refusal ≡ 0 → {hour month year : Run} {one two three : List ℕ}
-        → length year.book.shortfalls ≡ cell_count
         → Appended (hour_part file block (read_off run.book)) (told full) before hour one
         → Appended (and_then (standing hour) (if_due month_end_call)) hour one month two
         → Appended (and_then (standing month) (if_due year_end_call)) month two year three → IsStepped year three
     unfolding step_part
-    step_settled goes {hour} {month} {year} {one} {two} {three} cells first second third =
-        with_text year three cells (third.full ∙ second.full ∙ first.full)
+    step_settled goes {hour} {month} {year} {one} {two} {three} first second third =
+        with_text year three (third.cells (second.cells (first.cells all))) (third.full ∙ second.full ∙ first.full)
         (record { wrote = wrote_as (ap text_of same.printed) years.wrote; stands = years.stands ∙ same.ends })
       where
         hours : Reached (hour_part file block (read_off run.book)) before run.end hour one

@@ -78,9 +78,10 @@ pub fn step(mut run: Run, rights: &[u8], block: &[u8], text: &mut [u8]) -> Run
     if run.refusal != 0 {
         return run;
     }
-    let settled = events::settle_hour(run, rights, block, text);
-    let closed = events::close_if_due(settled, End::Month, text);
-    events::close_if_due(closed, End::Year, text)
+    run.settle_hour(rights, block, text);
+    run.close_if_due(End::Month, text);
+    run.close_if_due(End::Year, text);
+    run
 }
 
 // The last line: both balances, with their sign, or the refusal that stopped the run.

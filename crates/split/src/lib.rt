@@ -2,12 +2,12 @@
 
 #![tactic(auto)]
 
-ghost use Rattle.std.specs.Prelude.{ℕ, ◌<◌, ◌≤◌, ◌≡◌, length, get_or};
-ghost use Rattle.numbers.specs.Limits.{most_cents};
-ghost use Rattle.numbers.specs.Lists.{list_below, total};
+ghost use Rattle.std.specs.Prelude.{ℕ, ◌<◌, ◌≤◌, ◌≡◌, ltb, length, get_or};
+ghost use Rattle.numbers.specs.Limits.{owners, most_cents};
+ghost use Rattle.numbers.specs.Lists.{count_below, list_below, total};
 ghost use Rattle.numbers.specs.Refusals.{answered};
-ghost use Rattle.split.specs.InnerContracts.{place_of, with_odd_cent, Short, WholePaid};
-ghost use Rattle.split.specs.Split.{payment, allocation, has_wrong_limits, payments_after, split_refusal, stands_ahead};
+ghost use Rattle.split.specs.InnerContracts.{with_odd_cent, Short, WholePaid};
+ghost use Rattle.split.specs.Split.{payment, allocation, has_wrong_limits, payments_after, split_refusal};
 
 use numbers::{OWNERS, Refusal};
 
@@ -40,7 +40,7 @@ fn pay_whole_parts(
     sum: u64,
     wants: &[u64],
     payments: &mut [u64],
-    remainders: &mut [u64],
+    remainders: &mut [u32],
 ) -> u64
     requires short { Short fund sum wants.now payments.old }
     requires a_remainder_each { length remainders.old ≡ length wants.now }
@@ -52,43 +52,38 @@ fn pay_whole_parts(
         let share = fund * *want;
         let whole = share / sum;
         payments[i] = whole;
-        remainders[i] = share % sum;
+        remainders[i] = (share % sum) as u32;
         unpaid -= whole;
     }
     unpaid
 }
 
-// Whether the other owner, with the number j, stands ahead of owner i for an odd cent: a larger remainder, or an equal one and a lower number.
-// Without a branch, since it runs for every two owners.
-fn is_ahead(remainder: u64, i: usize, other: u64, j: usize) -> bool
-    ensures { result ≡ stands_ahead remainder i other j }
+// How many of the remainders are larger than this one.
+#[tactic(auto, using(crate::proofs::Order::counting_ahead))]
+fn larger(remainders: &[u32], remainder: u32) -> u32
+    requires few { length remainders.now ≤ owners }
+    ensures { result ≡ count_below (λ k. ltb remainder (get_or remainders.now k 0)) (length remainders.now) }
 {
-    (remainder < other) | ((remainder == other) & (j < i))
-}
-
-// How many of the owners stand ahead of owner i.
-#[tactic(auto, using(crate::proofs::Order::counting_ahead), unfolding(crate::specs::InnerContracts::place_of))]
-fn place(remainders: &[u64], i: usize) -> u64
-    requires i_in_bounds { i < length remainders.now }
-    ensures { result ≡ place_of remainders.now i }
-{
-    let remainder = remainders[i];
-    let mut place = 0;
-    for (j, other) in remainders.iter().enumerate() {
-        place += u64::from(is_ahead(remainder, i, *other, j));
+    let mut larger = 0;
+    for other in remainders {
+        larger += u32::from(remainder < *other);
     }
-    place
+    larger
 }
 
-// Adds an odd cent to the payment of each owner who has fewer ahead than cents are unpaid.
-#[tactic(auto, using(crate::proofs::Order::one_from_test), unfolding(crate::specs::InnerContracts::with_odd_cent))]
-fn pay_odd_cents(remainders: &[u64], unpaid: u64, payments: &mut [u64])
-    requires a_remainder_each { length payments.old ≡ length remainders.now }
+// Adds an odd cent to the payment of each owner who has fewer ahead than cents are unpaid. The remainder of an owner that had its turn is raised
+// by one, so that of two equal ones the lower number's is the larger, and numbers need not be compared.
+fn pay_odd_cents(remainders: &mut [u32], unpaid: u64, payments: &mut [u64])
+    requires few { length remainders.old ≤ owners }
+    requires a_remainder_each { length payments.old ≡ length remainders.old }
     requires small { (k : ℕ) → k < length payments.old → get_or payments.old k 0 ≤ most_cents }
-    ensures { (k : ℕ) → k < length payments.old → get_or payments.new k 0 ≡ with_odd_cent remainders.now unpaid payments.old k }
+    requires raisable { (k : ℕ) → k < length remainders.old → get_or remainders.old k 0 < most_cents }
+    ensures { (k : ℕ) → k < length payments.old → get_or payments.new k 0 ≡ with_odd_cent remainders.old unpaid payments.old k }
 {
     for (i, payment) in payments.iter_mut().enumerate() {
-        *payment += u64::from(place(remainders, i) < unpaid);
+        let remainder = remainders[i];
+        *payment += u64::from(u64::from(larger(remainders, remainder)) < unpaid);
+        remainders[i] = remainder + 1;
     }
 }
 
@@ -99,7 +94,7 @@ fn pay_shares(fund: u64, sum: u64, wants: &[u64], payments: &mut [u64])
     ensures { payments.new ≡ list_below (payment fund wants.now) (length wants.now) }
 {
     // A fixed buffer cut to the length of the wants, since there is no heap.
-    let mut places = [0u64; OWNERS];
+    let mut places = [0u32; OWNERS];
     let remainders = &mut places[..wants.len()];
     let unpaid = pay_whole_parts(fund, sum, wants, payments, remainders);
     if unpaid > 0 {

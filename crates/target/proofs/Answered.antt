@@ -32,12 +32,3 @@ module _ (year : ℕ) (file : List ℕ) (number : ℕ) (within : is_outside year
           let same : right ≡ right_at file number = cc (answered_good year file number within long inside good) in
           (same, ap (is_good (days_in_year year)) same ∙ good)
       by_test false bad = cc (answered_bad year file number within long inside bad)
-
-  -- it is refused, and the file's right is not good
-  pub read_refused : (refusal : Refusal) → answered (read_refusal year file number) number (right_at file number) ≡ Err refusal
-      → is_good (days_in_year year) (right_at file number) ≡ false
-  read_refused refusal is = by_test (is_good (days_in_year year) (right_at file number)) refl
-    where
-      by_test : (good : Bool) → is_good (days_in_year year) (right_at file number) ≡ good → is_good (days_in_year year) (right_at file number) ≡ false
-      by_test true good = cc (answered_good year file number within long inside good)
-      by_test false bad = bad

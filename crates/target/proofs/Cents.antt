@@ -58,17 +58,9 @@ module _ (prices : List ℤ) (no_wild : any_wild prices ≡ false) where
       le_trans (le_of_eq (abs_mul (pos right.size) (counted right.kind (spread prices right))))
       (mul-le-mul (good_size_lem right sized) (gain_most right))
 
-  live_most : (right : Right) → good_size right ≡ true → nat_abs (live_cents prices right) ≤ most_cents
+  pub live_most : (right : Right) → good_size right ≡ true → nat_abs (live_cents prices right) ≤ most_cents
   unfolding live_cents
   live_most right sized = omega (arith, rounded_most (tenths prices right), tenths_most right sized)
-
-  pub row_most : (hour : OperatingHour) (right : Right) → good_size right ≡ true → nat_abs (row_cents prices hour right) ≤ most_cents
-  unfolding row_cents
-  row_most hour right sized = by_test (is_live hour right)
-    where
-      by_test : (live : Bool) → nat_abs (cond live (live_cents prices right) (pos 0)) ≤ most_cents
-      by_test true = live_most right sized
-      by_test false = zero-le
 
 -- a right's row, by whether it is live
 module _ (prices : List ℤ) (hour : OperatingHour) (right : Right) where

@@ -2,20 +2,17 @@
 
 #![tactic(auto)]
 
-ghost use Rattle.std.specs.Prelude.{◌≡◌, false, true, length};
+ghost use Rattle.std.specs.Prelude.{◌≡◌, length};
 ghost use Rattle.numbers.specs.Refusals.{answered, first_refusal};
-ghost use Rattle.calendar.specs.Almanac.{is_outside};
 ghost use Rattle.calendar.specs.Year.{operating_hour};
-ghost use Rattle.rights.specs.Layout.{is_wrong_length};
 ghost use Rattle.target.specs.Rounding.{round_tenths};
-ghost use Rattle.target.specs.InnerContracts.{added};
 ghost use Rattle.target.specs.Target.{any_wild, call_answer, early_rows, is_wild, is_wrong_price_count, target_lines, target_refusal};
 
 use calendar::OperatingHour;
 use numbers::{OWNERS, Refusal};
 use priced_right::PricedRight;
-use rights::Reader;
 
+mod live_rights;
 mod priced_right;
 mod right_rows;
 
@@ -43,7 +40,7 @@ pub fn targets(
     ensures lines_after { lines.new ≡ target_lines year rights.now prices.now hour lines.old }
 {
     let hour = looked_at(year, rights, prices, hour, lines.len() != OWNERS)?;
-    let Some(sums) = add_rights(year, rights, prices, hour) else {
+    let Some(sums) = live_rights::add_rights(year, rights, prices, hour) else {
         return rights::file_fault(year, rights, prices.len());
     };
     lines.copy_from_slice(&sums);
@@ -76,30 +73,6 @@ fn wrong_price_count(prices: usize) -> bool
     ensures { result ≡ is_wrong_price_count prices }
 {
     (prices == 0) | (numbers::NODES < prices)
-}
-
-// Each owner's sum of its records' rows, made in one pass. It stops at a record that is bad or unpriced, and then gives none.
-fn add_rights(
-    year: u64,
-    rights: &[u8],
-    prices: &[i32],
-    hour: OperatingHour,
-) -> Option<[i64; OWNERS]>
-    requires { (is_outside year ≡ false) × (is_wrong_length (length rights.now) ≡ false) × (any_wild prices.now ≡ false) }
-    ensures { result ≡ added year rights.now prices.now hour }
-{
-    let mut sums = [0i64; OWNERS];
-    for given in Reader::new(year, rights) {
-        let Ok(right) = given else {
-            return None;
-        };
-        // A good right's nodes are below 1,024: with as many prices none is missing.
-        if (prices.len() < numbers::NODES) & rights::is_unpriced(right, prices.len()) {
-            return None;
-        }
-        PricedRight { right, prices }.add_to(&mut sums, hour);
-    }
-    Some(sums)
 }
 
 // Whether some price is outside its range. No early way out, so that the loop goes over several prices at a time.

@@ -3,35 +3,38 @@ ghost use Rattle.std.specs.Prelude.{◌≡◌, false, true, ◌+◌, ◌*◌, �
 ghost use Rattle.rights.specs.Layout.{good_owner, good_size, most_size};
 ghost use Rattle.rights.specs.Faults.{is_unpriced};
 ghost use Rattle.target.specs.Rounding.{round_tenths};
-ghost use Rattle.target.specs.InnerContracts.{half_cent};
 ghost use Rattle.target.specs.Target.{any_wild, counted, live_cents, most_price, row_cents, tenths};
 
 use calendar::OperatingHour;
 use numbers::OWNERS;
 use rights::{Kind, Right};
 
-// A right with a good owner and a good size, whose two nodes are among the prices, none of which is wild. Its days are looked at before, by the
+// A tenth of 2^64, rounded up.
+const TENTH: i128 = (1 << 64) / 10 + 1;
+
+// Half of 2^64.
+const HALF: i128 = 1 << 63;
+
+// A right with a good owner, kind and size, whose two nodes are among the prices, none of which is wild. Its days are looked at before, by the
 // year.
 #[derive(Clone, Copy)]
 pub(crate) struct PricedRight<'a> {
     pub(crate) right: Right,
     pub(crate) prices: &'a [i32],
     ghost owned: { good_owner right ≡ true },
+    ghost kinded: { right.kind ≤ 1 },
     ghost sized: { good_size right ≡ true },
     ghost priced: { is_unpriced (length prices.now) right ≡ false },
     ghost tame: { any_wild prices.now ≡ false },
 }
 
 impl<'a> PricedRight<'a> {
-    // Adds the right's cents to its owner's sum; one that is not live leaves the sums as they are. Not by `row_cents`: to add 0 takes longer.
-    #[tactic(auto, using(crate::proofs::Cents::row_live))]
-    pub(crate) fn add_to(&self, sums: &mut [i64; OWNERS], hour: OperatingHour)
-        requires { nat_abs (get_or sums.old self.now.right.owner (pos 0)) + nat_abs (row_cents self.now.prices.now hour self.now.right) < 2 ^ 63 }
-        ensures { sums.new ≡ set sums.old self.now.right.owner (get_or sums.old self.now.right.owner (pos 0) +ℤ row_cents self.now.prices.now hour self.now.right) }
+    // Adds a live right's cents to its owner's sum.
+    pub(crate) fn add_to(&self, sums: &mut [i64; OWNERS])
+        requires { nat_abs (get_or sums.old self.now.right.owner (pos 0)) + nat_abs (live_cents self.now.prices.now self.now.right) < 2 ^ 63 }
+        ensures { sums.new ≡ set sums.old self.now.right.owner (get_or sums.old self.now.right.owner (pos 0) +ℤ live_cents self.now.prices.now self.now.right) }
     {
-        if rights::is_live(self.right, hour) {
-            sums[usize::from(self.right.owner)] += self.live_cents();
-        }
+        sums[usize::from(self.right.owner)] += self.live_cents();
     }
 
     // The right's cents in an hour, 0 where it is not live.
@@ -64,12 +67,12 @@ impl<'a> PricedRight<'a> {
         i64::from(self.right.size) * gain
     }
 
-    // The spread, but 0 for an option's negative one. The kind is asked for as a byte, since one that is made a `Kind` would be made so for
-    // this question alone.
+    // The spread, but 0 for an option's negative one. A kind is 0 or 1, so that its last bit tells an option: that is one instruction, where the
+    // whole byte would be cut out first.
     fn counted(&self, gain: i64) -> i64
         ensures { result ≡ counted self.now.right.kind gain }
     {
-        if self.right.kind == Kind::Option as u8 {
+        if self.right.kind % 2 == Kind::Option as u8 {
             gain.max(0)
         } else {
             gain
@@ -77,18 +80,12 @@ impl<'a> PricedRight<'a> {
     }
 }
 
-// `round_tenths` for the tenths of one right, which are few enough that half a cent can be added first: one division in place of two.
+// `round_tenths` for the tenths of one right: times a tenth of 2^64, plus half of 2^64, and the lower 64 bits cut off, which goes downwards on both
+// sides of zero. The tenth is rounded up, so that the product lies a little too far from zero: that decides the halves, and with so few tenths
+// nothing else. One product and no test: a spread's sign cannot be foreseen.
 fn nearest_cent(tenths: i64) -> i64
     requires { nat_abs tenths ≤ most_size * (most_price + most_price) }
     ensures { result ≡ round_tenths tenths }
 {
-    (tenths + half_cent(tenths)) / 10
-}
-
-// Half a cent in tenths, with the sign of a number. Both ends are constants, so that the compiler makes no branch: a spread's sign cannot be
-// foreseen.
-fn half_cent(tenths: i64) -> i64
-    ensures { result ≡ half_cent tenths }
-{
-    if tenths < 0 { -5 } else { 5 }
+    ((i128::from(tenths) * TENTH + HALF) >> 64) as i64
 }

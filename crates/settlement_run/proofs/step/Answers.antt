@@ -19,6 +19,6 @@ pub returns : goal.returns
 returns c =
     let said = lacks_said _ _ _ c.has_room.ensures in
     let is =
-    step_settled c.args.rights.now c.args.block.now c.args.run c.args.text.now (search rules) (not c.has_room.result) said c.if-run.false (omega arith) (search rules)
-    c.settle_hour-settled.ensures c.close_if_due-closed.ensures c.close_if_due.ensures in
+    step_settled c.args.rights.now c.args.block.now c.args.run c.args.text.now (search rules) (not c.has_room.result) said c.if-run.false (omega arith)
+    c.settle_hour.ensures c.close_if_due.ensures c.close_if_due-2.ensures in
     record { value = is.0; text_after = is.1 }

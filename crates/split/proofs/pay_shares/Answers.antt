@@ -1,11 +1,12 @@
-use Rattle.std.proofs.Common.{rules, ℕ, ◌+◌, ◌<◌, ◌≡◌, ◌∙◌, Bool, cond, ltb, List, length, get_or, sym, ap, ap₂, arith}
+use Rattle.std.proofs.Common.{rules, ℕ, ◌+◌, ◌<◌, ◌≤◌, ◌≡◌, ◌∙◌, Bool, cond, ltb, List, length, get_or, sym, ap, ap₂, arith}
 use borrow.Author.Tests.{le-ltb}
 use lib.Seq.{ext_get_or}
+use Rattle.numbers.specs.Limits.{most_cents}
 use Rattle.numbers.specs.Lists.{total, count_below, list_below}
 use Rattle.numbers.proofs.Counts.{count_ext, length_list_below, get_or_list_below}
 use Rattle.split.specs.InnerContracts.{ahead_by, place_of, with_odd_cent, WholePaid}
 use Rattle.split.specs.Split.{is_ahead, gets_odd_cent, payment, stands_ahead}
-use Rattle.split.proofs.Shares.{whole_and_unpaid}
+use Rattle.split.proofs.Shares.{remainder_small, whole_and_unpaid}
 use Rattle.split.proofs.Laws.{paid_short}
 use Rattle.split.proofs.pay_shares.Goals as goal
 
@@ -25,6 +26,10 @@ module _ {fund : ℕ} {wants paid remainders : List ℕ} {unpaid : ℕ} (short :
       (is_ahead fund wants i)
       (length wants)
       (λ j m. ap₂ (λ (x y : ℕ). stands_ahead x i y j) (done.remains i l) (done.remains j m))
+
+  -- a remainder is below the sum of the wants
+  raisable : total wants ≤ most_cents → (k : ℕ) → k < length remainders → get_or remainders k 0 < most_cents
+  raisable within k l = omega (arith, done.remains k (omega arith), remainder_small fund wants k (omega arith))
 
   odd_is : (i : ℕ) → i < length wants → ltb (place_of remainders i) unpaid ≡ gets_odd_cent fund wants i
   unfolding gets_odd_cent
@@ -53,6 +58,10 @@ module _ {fund : ℕ} {wants paid remainders : List ℕ} {unpaid : ℕ} (short :
           ∙ ap (λ (n : ℕ). with_odd_cent remainders n paid i) all_given
           ∙ payment_is i l
           ∙ sym (get_or_list_below (payment fund wants) (length wants) 0 i l)
+
+pub pay_odd_cents-requires-clause-raisable : goal.pay_odd_cents-requires-clause-raisable
+pay_odd_cents-requires-clause-raisable c =
+    raisable (omega arith) (search rules) c.pay_whole_parts-unpaid.ensures (omega arith)
 
 pub returns-then-unpaid-gt0 : goal.returns-then-unpaid-gt0
 returns-then-unpaid-gt0 c =

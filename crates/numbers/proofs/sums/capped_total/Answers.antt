@@ -12,7 +12,7 @@ none_left amounts i l = ap total (drop_of_length-le amounts l)
 pub loop-amount-preserved : goal.loop-amount-preserved
 loop-amount-preserved c =
     let more = total_drop c.args.amounts.now c.loop-amount.amount-index (omega arith) in
-    record { within = omega arith; capped = omega arith; comes_to = omega arith }
+    record { within = omega arith; small = omega arith; comes_to = omega arith }
 
 pub returns : goal.returns
 returns c = let none = none_left c.args.amounts.now c.loop-amount.amount-index (omega arith) in omega arith

@@ -5,11 +5,12 @@ use Rattle.numbers.specs.Lists.{list_below}
 use Rattle.numbers.specs.Refusals.{answered}
 use Rattle.numbers.proofs.Counts.{filled_more, filled_all}
 use Rattle.calendar.specs.Almanac.{days_in_year}
+use Rattle.calendar.proofs.AlmanacLaws.{days_most}
 use Rattle.rights.specs.declared.Right.{Right}
 use Rattle.rights.specs.Layout.{record_count, right_at, is_good, read_refusal}
 use Rattle.rights.specs.Faults.{file_refusal, is_unpriced}
 use Rattle.rights.proofs.Faults.{clear_year, clear_length, clear_record}
-use Rattle.rights.proofs.Good.{owner_is_good, size_is_good}
+use Rattle.rights.proofs.Good.{good_small, owner_is_good, size_is_good}
 use Rattle.rights.proofs.Readings.{answered_good}
 use Rattle.target.specs.Target.{row_cents, row_at}
 use Rattle.target.proofs.Answered.{read_right}
@@ -37,7 +38,7 @@ unwrap-right-requires c = rw (c.read.ensures ∙ read_given _ _ _ c.requires.0 _
 pub invariant_of-row_cents : goal.invariant_of-row_cents
 invariant_of-row_cents c =
     let right = read_fine _ _ _ c.requires.0 _ (omega arith) c.unwrap-right.result (sym c.read.ensures ∙ c.unwrap-right.ensures) in
-    record { owned = owner_is_good (days_in_year c.args.year) c.unwrap-right.result right.1; sized = size_is_good (days_in_year c.args.year) c.unwrap-right.result right.1; priced = right.2; tame = c.requires.1 }
+    record { owned = owner_is_good (days_in_year c.args.year) c.unwrap-right.result right.1; kinded = (good_small (days_in_year c.args.year) c.unwrap-right.result right.1 (days_most c.args.year)).kind; sized = size_is_good (days_in_year c.args.year) c.unwrap-right.result right.1; priced = right.2; tame = c.requires.1 }
 
 pub loop-number-preserved : goal.loop-number-preserved
 loop-number-preserved c =
