@@ -1,8 +1,8 @@
 -- Whether some number below a bound passes a test.
 -- Assumes nothing.
-use Prim.Native.Nat.{ℕ, zero, suc, ◌+◌, ◌<◌}
+use Prim.Native.Nat.{ℕ, zero, suc, ◌+◌, ◌<◌, ◌≤◌}
 use mathlib.Core.Path.{◌≡◌, refl, sym, ap, ap₂, ◌∙◌}
-use mathlib.Core.Bool.{Bool, true, false, ◌||◌, or-true}
+use mathlib.Core.Bool.{Bool, true, false, not, ◌&&◌, ◌||◌, or-true, false≢true}
 use mathlib.Core.Logic.{⊎_elim}
 use native.Mathlib.Nat.{le_of_suc-le-suc, not-suc-le-zero, eq-or-lt_of_le}
 use native.Mathlib.Numerals.{add-one}
@@ -46,3 +46,23 @@ module _ (test : ℕ → Bool) where
   unfolding any_below
   any_absent zero fails = refl
   any_absent (suc n) fails = ap₂ (λ (a b : Bool). a || b) (any_absent n (λ k l. fails k (omega arith))) (fails n (omega arith))
+
+  -- none below n passes and n does not, asked as one test
+  pub none_next : (n : ℕ) {before here : Bool} → before ≡ not (any_below test n) → here ≡ not (test n) → (before && here) ≡ not (any_below test (n + 1))
+  none_next n none fails = ap₂ (λ (a b : Bool). a && b) none fails ∙ apart (any_below test n) (test n) ∙ sym (ap not (any_next n))
+    where
+      apart : (a b : Bool) → (not a && not b) ≡ not (a || b)
+      apart true b = refl
+      apart false b = refl
+
+-- what passes one test passes another, so that some number of a longer range passes that
+pub any_other : (one two : ℕ → Bool) (m n : ℕ) → m ≤ n → ((k : ℕ) → k < m → one k ≡ true → two k ≡ true) → any_below one m ≡ true → any_below two n ≡ true
+any_other one two m n more passes some = by_test (any_below two n) refl
+  where
+    by_test : (b : Bool) → any_below two n ≡ b → any_below two n ≡ true
+    by_test true is = is
+    by_test false none = absurd (false≢true (sym (any_absent one m (λ k inside. fails k inside (one k) refl)) ∙ some))
+      where
+        fails : (k : ℕ) → k < m → (b : Bool) → one k ≡ b → one k ≡ false
+        fails k inside true here = absurd (false≢true (sym (any_miss two n k none (omega (arith, more, inside))) ∙ passes k inside here))
+        fails k inside false here = here

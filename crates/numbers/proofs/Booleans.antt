@@ -1,7 +1,7 @@
 -- "and" and "or" of tests, taken apart; a test as a number.
 -- Assumes nothing.
 use mathlib.Core.Path.{◌≡◌, refl}
-use mathlib.Core.Bool.{Bool, true, false, cond, ◌&&◌, ◌||◌}
+use mathlib.Core.Bool.{Bool, true, false, cond, not, ◌&&◌, ◌||◌}
 use Prim.Native.Nat.{◌≤◌}
 use native.Mathlib.Omega.{arith}
 use mir.Val.{bool_byte}
@@ -15,6 +15,11 @@ both_true false b e = (e, cc)
 pub neither_true : (a b : Bool) → (a || b) ≡ false → (a ≡ false) × (b ≡ false)
 neither_true true b e = (e, cc)
 neither_true false b e = (refl, e)
+
+-- a test turned twice
+pub not_not : (a : Bool) → a ≡ not (not a)
+not_not true = refl
+not_not false = refl
 
 -- a flag as a number, which is 1 at most
 pub flag_byte : (flag : Bool) → bool_byte flag ≡ cond flag 1 0

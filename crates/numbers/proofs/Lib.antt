@@ -1,4 +1,5 @@
 pub mod Any
+pub mod Bits
 pub mod Booleans
 pub mod Counts
 pub mod Lowest

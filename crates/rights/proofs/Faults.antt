@@ -104,6 +104,10 @@ module _ (year prices : ℕ) (file : List ℕ) where
   unfolding any_fault
   any_fault_here refusal number inside here = any_here (fault_at year prices file refusal) (record_count file) number inside here
 
+  pub any_bad : any_fault year prices file 7 ≡ any_below (λ (number : ℕ). not (is_good (days_in_year year) (right_at file number))) (record_count file)
+  unfolding any_fault fault_at
+  any_bad = refl
+
   pub no_fault_to : (refusal : ℕ) → any_below (fault_at year prices file refusal) (record_count file) ≡ false
       → any_fault year prices file refusal ≡ false
   unfolding any_fault

@@ -1,17 +1,21 @@
 -- What a good right's fields are, read off the joined test.
 -- Assumes nothing.
-use Prim.Native.Nat.{ℕ, ◌≤◌, ◌<◌}
-use mathlib.Core.Path.{◌≡◌}
-use mathlib.Core.Bool.{true, false, not, ◌&&◌}
+use Prim.Native.Nat.{ℕ, ◌^◌, ◌≤◌, ◌<◌}
+use mathlib.Core.Path.{◌≡◌, refl, sym, ap, ap₂, ◌∙◌}
+use mathlib.Core.Bool.{Bool, true, false, not, ◌&&◌}
 use native.Mathlib.Omega.{arith}
 use lib.Dec.{leb, ltb, eqb}
-use borrow.Author.Tests.{leb-true, lt-leb, ltb-true}
+use borrow.Author.Tests.{leb-true, le-leb, lt-leb, ltb-true, ltb-false}
+use Rattle.std.specs.Int.Bits.{bit_or}
 use Rattle.numbers.specs.Limits.{owners, nodes}
+use Rattle.numbers.specs.Words.{part_of}
+use Rattle.numbers.proofs.Bits.{join_below, join_part}
 use Rattle.numbers.proofs.Booleans.{both_true}
 use Rattle.rights.specs.declared.Right.{Right}
 use Rattle.rights.specs.Layout.{most_size, good_owner, good_nodes, good_kind, good_size, good_days, is_good}
 use Rattle.rights.specs.Faults.{is_unpriced}
-use Rattle.rights.specs.RecordWords.{InWidths}
+use Rattle.rights.specs.GoodParts.{is_sound, is_within_limits}
+use Rattle.rights.specs.RecordWords.{InWidths, right_of}
 
 -- the most that each field may be, in the longest year
 pub record Small (right : Right) : Type 0 where
@@ -23,6 +27,66 @@ pub record Small (right : Right) : Type 0 where
   pub size : right.size ≤ most_size
   pub first : right.first ≤ 366
   pub last : right.last ≤ 366
+
+-- a right is good where each part of its test holds
+pub good_parts : (days : ℕ) (right : Right) → is_good days right ≡ (is_within_limits right && is_sound right && leb right.last days)
+good_parts days right =
+    in_order (good_owner right) (ltb right.source nodes) (ltb right.sink nodes) (not (eqb right.sink right.source)) (leb right.kind 1) (leb right.class 2)
+    (good_size right) (leb 1 right.first) (leb right.first right.last) (leb right.last days)
+  where
+    in_order : (owner source sink other kind class size first order last : Bool)
+        → (owner && (source && sink && other) && (kind && class) && size && (first && order && last))
+        ≡ ((owner && source && sink && kind) && (other && class && size && first && order) && last)
+    in_order false source sink other kind class size first order last = refl
+    in_order true false sink other kind class size first order last = refl
+    in_order true true false other kind class size first order last = refl
+    in_order true true true false false class size first order last = refl
+    in_order true true true false true class size first order last = refl
+    in_order true true true true false class size first order last = refl
+    in_order true true true true true false size first order last = refl
+    in_order true true true true true true false first order last = refl
+    in_order true true true true true true true false order last = refl
+    in_order true true true true true true true true false last = refl
+    in_order true true true true true true true true true last = refl
+
+-- a test of a joined word, asked of both words
+record OfBoth (whole one two : Bool) : Type 0 where
+  pub is : whole ≡ (one && two)
+
+-- and two such tests
+of_both : {first of_one of_two second and_one and_two : Bool} → OfBoth first of_one of_two → OfBoth second and_one and_two
+    → OfBoth (first && second) (of_one && and_one) (of_two && and_two)
+of_both {of_one = a} {of_two = b} {and_one = c} {and_two = d} f s = record { is = ap₂ (λ (a b : Bool). a && b) f.is s.is ∙ apart a b c d }
+  where
+    apart : (a b c d : Bool) → ((a && b) && (c && d)) ≡ ((a && c) && (b && d))
+    apart false b c d = refl
+    apart true false false d = refl
+    apart true false true d = refl
+    apart true true c d = refl
+
+-- joined low words are within the limits where each is: each of these limits is a power of two
+pub limits_joined : (one two high : ℕ)
+    → is_within_limits (right_of (bit_or one two) high) ≡ (is_within_limits (right_of one high) && is_within_limits (right_of two high))
+limits_joined one two high = (of_both (of_both (of_both (part 2 0 6) (part 2 2 10)) (part 2 4 10)) kind).is
+  where
+    part : (n at k : ℕ) → OfBoth (ltb (part_of n (bit_or one two) at) (2 ^ k)) (ltb (part_of n one at) (2 ^ k)) (ltb (part_of n two at) (2 ^ k))
+    part n at k = record { is = ap (λ (w : ℕ). ltb w (2 ^ k)) (join_part n one two at) ∙ join_below k (part_of n one at) (part_of n two at) }
+
+    one_at_most : (kind : ℕ) → leb kind 1 ≡ ltb kind 2
+    one_at_most kind = by_kind (ltb kind 2) refl
+      where
+        by_kind : (few : Bool) → ltb kind 2 ≡ few → leb kind 1 ≡ few
+        by_kind true is = le-leb kind 1 (omega (arith, ltb-true kind 2 is))
+        by_kind false is = lt-leb kind 1 (omega (arith, ltb-false kind 2 is))
+
+    kind : OfBoth (leb (part_of 1 (bit_or one two) 6) 1) (leb (part_of 1 one 6) 1) (leb (part_of 1 two 6) 1)
+    kind =
+        record {
+          is =
+              one_at_most (part_of 1 (bit_or one two) 6)
+              ∙ (part 1 6 1).is
+              ∙ sym (ap₂ (λ (a b : Bool). a && b) (one_at_most (part_of 1 one 6)) (one_at_most (part_of 1 two 6)));
+        }
 
 -- in a year with so many days
 module _ (days : ℕ) (right : Right) (good : is_good days right ≡ true) where
@@ -53,14 +117,6 @@ module _ (days : ℕ) (right : Right) (good : is_good days right ≡ true) where
       let source = ltb-true right.source nodes priced.0 in
       let sink = ltb-true right.sink nodes priced.1 in
       rw (lt-leb prices right.source (omega arith), lt-leb prices right.sink (omega arith))
-
-  -- its days are in their order
-  pub days_in_order : (1 ≤ right.first) × (right.first ≤ right.last)
-  days_in_order =
-      let days_good = both_true (leb 1 right.first && leb right.first right.last) (leb right.last days)
-      (both_true (good_owner right && good_nodes right && good_kind right && good_size right) (good_days days right) good).1 in
-      let first_good = both_true (leb 1 right.first) (leb right.first right.last) days_good.0 in
-      (leb-true 1 right.first first_good.0, leb-true right.first right.last first_good.1)
 
   -- its fields are small
   pub good_small : days ≤ 366 → Small right
@@ -97,6 +153,23 @@ module _ (days : ℕ) (right : Right) (good : is_good days right ≡ true) where
         first = omega (arith, small.first);
         last = omega (arith, small.last);
       }
+
+-- a sound right has one of the three classes, and days in their order
+module _ (right : Right) (sound : is_sound right ≡ true) where
+  to_order : ((not (eqb right.sink right.source) && leb right.class 2 && good_size right && leb 1 right.first) ≡ true) × (leb right.first right.last ≡ true)
+  to_order = both_true (not (eqb right.sink right.source) && leb right.class 2 && good_size right && leb 1 right.first) (leb right.first right.last) sound
+
+  to_first : ((not (eqb right.sink right.source) && leb right.class 2 && good_size right) ≡ true) × (leb 1 right.first ≡ true)
+  to_first = both_true (not (eqb right.sink right.source) && leb right.class 2 && good_size right) (leb 1 right.first) to_order.0
+
+  pub days_in_order : (1 ≤ right.first) × (right.first ≤ right.last)
+  days_in_order = (leb-true 1 right.first to_first.1, leb-true right.first right.last to_order.1)
+
+  pub class_known : right.class ≤ 2
+  class_known =
+      leb-true right.class 2
+      (both_true (not (eqb right.sink right.source)) (leb right.class 2)
+      (both_true (not (eqb right.sink right.source) && leb right.class 2) (good_size right) to_first.0).0).1
 
 pub good_owner_lem : (right : Right) → good_owner right ≡ true → right.owner < owners
 good_owner_lem right good = ltb-true _ _ good

@@ -1,5 +1,6 @@
 pub mod Faults
 pub mod Good
+pub mod Nodes
 pub mod Readings
 pub mod RecordCalls
 pub mod RecordWords

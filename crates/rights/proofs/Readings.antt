@@ -1,13 +1,13 @@
 -- What a read of a record that the file has says of that record.
 -- Assumes nothing.
-use Prim.Native.Nat.{ℕ, zero, suc, ◌<◌, ◌≤◌, ◌%◌}
+use Prim.Native.Nat.{ℕ, zero, suc, ◌/◌, ◌<◌, ◌≤◌, ◌%◌}
 use mathlib.Core.Path.{◌≡◌, refl, sym, ap, ◌∙◌}
 use mathlib.Core.Bool.{true, false, not}
 use mathlib.Core.List.{List}
 use native.Mathlib.Omega.{arith}
 use lib.Dec.{ltb, eqb}
 use lib.ListN.{length}
-use borrow.Author.Tests.{ltb-false}
+use borrow.Author.Tests.{eqb-true, ltb-false, not-false}
 use Rattle.std.specs.Prelude.{Result, Ok, Err}
 use Rattle.std.specs.Result.{result_unwrap_or}
 use Rattle.numbers.specs.declared.refusal.Refusal.{Refusal}
@@ -16,7 +16,7 @@ use Rattle.numbers.specs.Refusals.{answer_by, answer_number, answered}
 use Rattle.numbers.proofs.Booleans.{neither_true}
 use Rattle.calendar.specs.Almanac.{is_outside, days_in_year}
 use Rattle.rights.specs.declared.Right.{Right}
-use Rattle.rights.specs.Layout.{Reading, record_bytes, most_bytes, record_count, right_at, is_good, is_wrong_length, record_refusal, read_refusal, reading, refused_reading}
+use Rattle.rights.specs.Layout.{Reading, record_bytes, most_bytes, record_count, right_at, right_from, is_good, is_wrong_length, record_refusal, read_refusal, reading, refused_reading}
 use Rattle.rights.proofs.RecordCalls.{record_15, record_7, record_0, record_number, record_by_length}
 
 -- a file of good length has at most 4,096 records
@@ -24,6 +24,15 @@ pub records_most : (file : List ℕ) → is_wrong_length (length file) ≡ false
 records_most file right =
     omega
     (arith, ltb-false most_bytes (length file) (neither_true (not (eqb (length file % record_bytes) 0)) (ltb most_bytes (length file)) right).1)
+
+-- a file of right length has whole records
+pub whole_records : (file : List ℕ) → is_wrong_length (length file) ≡ false → length file % record_bytes ≡ 0
+whole_records file right =
+    eqb-true (length file % record_bytes) 0 (not-false (eqb (length file % record_bytes) 0) (neither_true (not (eqb (length file % record_bytes) 0)) (ltb most_bytes (length file)) right).0)
+
+-- a record by its place
+pub at_place : (file : List ℕ) (place : ℕ) → place % record_bytes ≡ 0 → right_from file place ≡ right_at file (place / record_bytes)
+at_place file place whole = ap (right_from file) (omega (arith, whole))
 
 module _ (year : ℕ) (file : List ℕ) (number : ℕ) where
   -- a read by its refusal number

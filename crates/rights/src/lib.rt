@@ -2,13 +2,14 @@
 
 #![tactic(auto)]
 
-ghost use Rattle.std.specs.Prelude.{◌≡◌, ◌++◌};
+ghost use Rattle.std.specs.Prelude.{◌≡◌, ◌++◌, eqb, not};
 ghost use Rattle.numbers.specs.Refusals.{answered};
 ghost use Rattle.numbers.specs.Words.{bytes_of};
 ghost use Rattle.rights.specs.Layout.{is_good, is_live, is_wrong_length, laid_out, read_refusal, record_refusal, right_at, right_from};
 ghost use Rattle.rights.specs.RecordWords.{high_word, low_word, right_of};
 ghost use Rattle.rights.specs.Writing.{file_after};
-ghost use Rattle.rights.specs.InnerContracts.{is_within_limits, other_class};
+ghost use Rattle.rights.specs.GoodParts.{is_sound, is_within_limits};
+ghost use Rattle.rights.specs.InnerContracts.{other_class};
 ghost use Rattle.rights.specs.Faults.{faulty_record, file_refusal, is_unpriced};
 
 use calendar::OperatingHour;
@@ -133,24 +134,18 @@ impl Words {
         }
     }
 
-    // Whether each field of the record has a good value, in a year with so many days. The tests stand in the order in which the loop over the
-    // rights, as it is compiled, was measured to be fastest.
+    // Whether each field of the record has a good value, in a year with so many days.
+    #[tactic(auto, using(crate::proofs::Good::good_parts))]
     pub fn is_good(self, days: u64) -> bool
         ensures { result ≡ is_good days (right_of self.low self.high) }
     {
-        let right = self.cut();
-        ((1 <= right.first) & (right.first <= right.last))
-            & (right.sink != right.source)
-            & self.within_limits()
-            & (right.class <= Class::AllHours as u8)
-            & ((1 <= right.size) & (right.size <= MOST_SIZE))
-            & (u64::from(right.last) <= days)
+        self.is_within_limits() & self.is_sound() & (u64::from(self.cut().last) <= days)
     }
 
-    // Whether owner, source, sink and kind are within their limits. Asked of the word, and not of the fields cut from it, it is one test for
-    // the compiler: that the bits above the limits are 0. By `as`: of a constant of the other width, and of an enum, whose byte the language
-    // gives so.
-    fn within_limits(self) -> bool
+    // Whether owner, source, sink and kind are within their limits. These are powers of two: asked of the word, and not of the fields cut from it,
+    // it is one test for the compiler, that the bits above the limits are 0; and words joined bit by bit have none there where none of them has.
+    // By `as`: of a constant of the other width, and of an enum, whose byte the language gives so.
+    pub fn is_within_limits(self) -> bool
         ensures { result ≡ is_within_limits (right_of self.low self.high) }
     {
         let low = self.low;
@@ -158,6 +153,27 @@ impl Words {
             & (low / BYTES_2 % BYTES_2 < numbers::NODES as u64)
             & (low / BYTES_4 % BYTES_2 < numbers::NODES as u64)
             & (low / BYTES_6 % BYTES_1 <= Kind::Option as u64)
+    }
+
+    // Whether the sink is not the source, the class and the size are good, and the first day is from 1 to the last.
+    pub fn is_sound(self) -> bool
+        ensures { result ≡ is_sound (right_of self.low self.high) }
+    {
+        let right = self.cut();
+        self.has_two_nodes()
+            & (right.class <= Class::AllHours as u8)
+            & ((1 <= right.size) & (right.size <= MOST_SIZE))
+            & (1 <= right.first)
+            & (right.first <= right.last)
+    }
+
+    // Whether the sink is not the source. The word xor itself moved down by two bytes has source xor sink in its bytes 2 and 3, so that its lower
+    // four bytes are 65,536 at least where the two differ. For the compiler that is one shift, where two fields would be cut out.
+    #[tactic(auto, using(crate::proofs::Nodes::nodes_differ))]
+    fn has_two_nodes(self) -> bool
+        ensures { result ≡ not (eqb (right_of self.low self.high).sink (right_of self.low self.high).source) }
+    {
+        BYTES_2 <= (self.low ^ (self.low / BYTES_2)) % BYTES_4
     }
 }
 
@@ -220,7 +236,7 @@ pub fn is_unpriced(right: Right, prices: usize) -> bool
     (prices <= usize::from(right.source)) | (prices <= usize::from(right.sink))
 }
 
-// Whether the right is live in an hour. Here and in `is_good`, a class is turned to its byte by `as`, which the language does so.
+// Whether the right is live in an hour. Here and in `is_sound`, a class is turned to its byte by `as`, which the language does so.
 pub fn is_live(right: Right, hour: OperatingHour) -> bool
     ensures { result ≡ is_live hour right }
 {

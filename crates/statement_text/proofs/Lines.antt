@@ -1,43 +1,49 @@
 -- The texts of lines put together from their pieces, and how long they can be.
 -- Assumes nothing.
 use Prim.Native.Nat.{ℕ, zero, suc, ◌+◌, ◌*◌, ◌^◌, ◌≤◌, ◌<◌}
+use mathlib.Core.Bool.{true, false}
 use mathlib.Core.Path.{◌≡◌, refl, sym, ap, ◌∙◌}
 use mathlib.Core.List.{List, [], ◌∷◌, ◌++◌, append_assoc, append-nil}
 use native.Mathlib.Nat.{le_refl}
 use native.Mathlib.Numerals.{add-one}
 use native.Mathlib.Omega.{arith}
+use Rattle.std.proofs.lemmas.Int.{ints}
 use lib.ListN.{length, get_or, take, length-append}
 use lib.IntN.{ℤ, pos, negsuc, nat_abs}
+use lib.Signed.{lt_z}
 use Rattle.std.specs.List.{flat_map}
 use Rattle.std.proofs.lemmas.List.{flat_map_more, take_more}
-use Rattle.std.specs.Fmt.{decimal, signed_decimal}
 use Rattle.numbers.specs.Limits.{owners}
 use Rattle.statement_text.specs.InnerContracts.{Put, numbers_text}
 use Rattle.statement_text.specs.declared.lent.Text.{Text}
-use Rattle.statement_text.specs.Text.{blank, signed_digits, field, signed_field, Line, owner_line, fund_line, refusal_line, line_text, text_of, owner_lines, lines_below, event_lines, line_room, event_room}
-use Rattle.statement_text.proofs.Decimal.{printed_digits, printed_signed, digits_room, digits_half_room}
+use Rattle.statement_text.specs.Text.{blank, minus, digits, signed_digits, signed_field, Line, owner_line, fund_line, refusal_line, line_text, text_of, owner_lines, lines_below, event_lines, line_room, event_room}
+use Rattle.statement_text.proofs.Decimal.{digits_room, digits_half_room}
 use Rattle.statement_text.proofs.Pieces.{put_then, put_as}
 
--- ---- a number behind a blank, as it is printed
+-- ---- a number behind a blank, by its sign
 
-pub put_field : {t u : Text} (n : ℕ) {m : ℕ} → Put (blank ∷ decimal m) t u → m ≡ n → n < 2 ^ 64 → Put (field n) t u
-put_field n put same below =
-    put_as (ap (λ (l : List ℕ). blank ∷ l) (ap decimal same ∙ sym (printed_digits n below))) put
+pub put_below_zero : (z : ℤ) {t u v : Text} → lt_z z (pos 0) ≡ true → Put (blank ∷ minus ∷ []) t u → Put (digits (nat_abs z)) u v
+    → Put (signed_field z) t v
+unfolding signed_digits
+put_below_zero (pos n) low first second = absurd (omega (arith, ints, sym low))
+put_below_zero (negsuc n) low first second = put_then first second
 
-pub put_signed_field : {t u : Text} (z : ℤ) {y : ℤ} → Put (blank ∷ signed_decimal y) t u → y ≡ z → nat_abs z ≤ 2 ^ 63 → Put (signed_field z) t u
-put_signed_field z put same few =
-    put_as (ap (λ (l : List ℕ). blank ∷ l) (ap signed_decimal same ∙ sym (printed_signed z few))) put
+pub put_from_zero : (z : ℤ) {t u v : Text} → lt_z z (pos 0) ≡ false → Put (blank ∷ []) t u → Put (digits (nat_abs z)) u v
+    → Put (signed_field z) t v
+unfolding signed_digits
+put_from_zero (pos n) high first second = put_then first second
+put_from_zero (negsuc n) high first second = absurd (omega (arith, ints, sym high))
 
 -- ---- the lines of a letter and numbers
 
 -- one field more is put behind those before it
 pub put_number : (numbers : List ℤ) (i : ℕ) {t u v : Text} {y : ℤ} → Put (flat_map signed_field (take i numbers)) t u
-    → Put (blank ∷ signed_decimal y) u v → i < length numbers → y ≡ get_or numbers i (pos 0) → nat_abs (get_or numbers i (pos 0)) ≤ 2 ^ 63
+    → Put (signed_field y) u v → i < length numbers → y ≡ get_or numbers i (pos 0)
     → Put (flat_map signed_field (take (i + 1) numbers)) t v
-put_number numbers i first second within is few =
+put_number numbers i first second within is =
     put_as
     (flat_map_more signed_field [] (take i numbers) (get_or numbers i (pos 0)) ∙ ap (flat_map signed_field) (sym (take_more numbers i (pos 0) within)))
-    (put_then first (put_signed_field (get_or numbers i (pos 0)) second is few))
+    (put_then first (put_as (ap signed_field is) second))
 
 pub fund_numbers : (month year : ℤ) → numbers_text 70 (month ∷ year ∷ []) ≡ line_text (fund_line month year)
 unfolding line_text
@@ -100,7 +106,7 @@ put_owner tag number lines owner first second = put_as (sym (owners_next tag num
 
 -- ---- how long a text can be
 
-signed_length : (z : ℤ) → nat_abs z ≤ 2 ^ 63 → length (signed_digits z) ≤ 20
+pub signed_length : (z : ℤ) → nat_abs z ≤ 2 ^ 63 → length (signed_digits z) ≤ 20
 unfolding signed_digits
 signed_length (pos n) few = omega (arith, digits_half_room n few)
 signed_length (negsuc n) few = omega (arith, digits_half_room (suc n) few)

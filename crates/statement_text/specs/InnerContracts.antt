@@ -1,9 +1,9 @@
--- For the contracts of inner functions alone, no part of what a writing call promises: one piece of text is written, a line of a
--- letter and numbers, and the room that the parts of a sentence ask for.
+-- For the contracts of inner functions alone, no part of what a writing call promises: one piece of text is written, two digits, a line of
+-- a letter and numbers, and the room that the parts of a sentence ask for.
 -- Assumes nothing.
-use Rattle.std.specs.Prelude.{ℕ, ℤ, ◌+◌, ◌≤◌, ◌≡◌, List, [], ◌∷◌, ◌++◌, length, flat_map}
+use Rattle.std.specs.Prelude.{ℕ, ℤ, ◌+◌, ◌/◌, ◌%◌, ◌≤◌, ◌≡◌, List, [], ◌∷◌, ◌++◌, length, flat_map}
 use Rattle.numbers.specs.Lists.{written}
-use Rattle.statement_text.specs.Text.{newline, signed_field}
+use Rattle.statement_text.specs.Text.{digit, newline, signed_field}
 use Rattle.statement_text.specs.declared.lent.Text.{Text}
 
 -- a text was written at a place, and ends where it is said to end
@@ -17,6 +17,14 @@ pub record Put (piece : List ℕ) (text after : Text) : Type 0 where
   pub same_buffer : after.bytes.ghost_name ≡ text.bytes.ghost_name
   pub same_length : length after.bytes.now ≡ length text.bytes.now
   pub inside : after.end ≤ length after.bytes.now
+
+-- the most digits of a 64-bit number
+abbrev pub most_digits : ℕ
+most_digits = 20
+
+-- the two digits of a number below 100, the first of which may be 0
+abbrev pub pair : ℕ → List ℕ
+pair n = digit (n / 10) ∷ digit (n % 10) ∷ []
 
 -- a line of a letter and of numbers
 abbrev pub numbers_text : ℕ → List ℤ → List ℕ

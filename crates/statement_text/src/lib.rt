@@ -71,7 +71,7 @@ fn write_numbers(letter: u8, numbers: &[i64], text: &mut [u8], at: usize) -> usi
     };
     line.put(&[letter]);
     for number in numbers {
-        line.field(*number);
+        line.signed_field(*number);
     }
     line.put(b"\n");
     line.end
@@ -107,6 +107,7 @@ impl Named {
         }
     }
 
+    // By `as`: there is no `From` from an index to 64 bits.
     fn write_line(self, owner: usize, cents: i64, out: &mut Text)
         requires { out.old.end + line_room ≤ length out.old.bytes.now }
         ensures put { Put (line_text (owner_line self.tag self.number owner cents)) out.old out.new }
@@ -114,8 +115,8 @@ impl Named {
     {
         out.put(&[self.tag]);
         out.field(self.number);
-        out.field(owner);
-        out.field(cents);
+        out.field(owner as u64);
+        out.signed_field(cents);
         out.put(b"\n");
     }
 }

@@ -5,3 +5,4 @@ pub mod Pass
 pub mod Answered
 pub mod Rounding
 pub mod RowSums
+pub mod Search

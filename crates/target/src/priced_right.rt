@@ -12,8 +12,8 @@ use rights::{Kind, Right};
 // A tenth of 2^64, rounded up.
 const TENTH: i128 = (1 << 64) / 10 + 1;
 
-// Half of 2^64.
-const HALF: i128 = 1 << 63;
+// The lower 64 bits.
+const LOWER_HALF: i128 = (1 << 64) - 1;
 
 // A right with a good owner, kind and size, whose two nodes are among the prices, none of which is wild. Its days are looked at before, by the
 // year.
@@ -80,12 +80,14 @@ impl<'a> PricedRight<'a> {
     }
 }
 
-// `round_tenths` for the tenths of one right: times a tenth of 2^64, plus half of 2^64, and the lower 64 bits cut off, which goes downwards on both
-// sides of zero. The tenth is rounded up, so that the product lies a little too far from zero: that decides the halves, and with so few tenths
-// nothing else. One product and no test: a spread's sign cannot be foreseen.
+// `round_tenths` for the tenths of one right: the product with a tenth of 2^64, to the nearest multiple of 2^64. That is its upper half, and one
+// more where the lower half is 2^63 at least. The tenth is rounded up, so that the product lies a little too far from zero: that decides the halves,
+// and with so few tenths nothing else. One product and no test: a spread's sign cannot be foreseen. By `as`: the two halves, of which the lower is
+// cut out first, since a cast may lose nothing.
 fn nearest_cent(tenths: i64) -> i64
     requires { nat_abs tenths ≤ most_size * (most_price + most_price) }
     ensures { result ≡ round_tenths tenths }
 {
-    ((i128::from(tenths) * TENTH + HALF) >> 64) as i64
+    let product = i128::from(tenths) * TENTH;
+    (product >> 64) as i64 + ((product & LOWER_HALF) as u64 >> 63) as i64
 }

@@ -2,7 +2,6 @@
 use Rattle.std.proofs.Common.{rules, arith, ap, pos, get_or, FitsSigned, w64}
 use Rattle.std.proofs.lemmas.Int.{to_z-of_z}
 use Rattle.std.proofs.lemmas.List.{take_all}
-use Rattle.numbers.proofs.Signed.{fits_abs}
 use Rattle.statement_text.specs.InnerContracts.{numbers_text}
 use Rattle.std.specs.List.{flat_map}
 use Rattle.statement_text.specs.Text.{signed_field, line_room}
@@ -24,8 +23,7 @@ loop-number-preserved c =
     let fits : FitsSigned w64 (get_or c.args.numbers.now c.loop-number.number-index (pos 0)) = search rules in
     record {
       put =
-          put_number c.args.numbers.now _ c.loop-number.invariant.put c.field.ensures.put (search rules) (to_z-of_z w64 _ fits)
-          (fits_abs w64 _ fits);
+          put_number c.args.numbers.now _ c.loop-number.invariant.put c.signed_field.ensures.put (search rules) (to_z-of_z w64 _ fits);
       short = omega arith;
     }
 

@@ -2,5 +2,5 @@
 use Rattle.target.proofs.Pass.{Summed}
 use Rattle.target.proofs.live_rights.add_live.Given as goal
 
-abbrev pub invariant-loop-number : goal.invariant-loop-number
-invariant-loop-number l = Summed l.rights l.prices l.numbers l.sums l.number-index
+abbrev pub invariant-loop-place : goal.invariant-loop-place
+invariant-loop-place l = Summed l.rights l.prices l.places l.sums l.place-index

@@ -1,8 +1,12 @@
 -- A blank, and the number behind it.
-use Rattle.std.proofs.Common.{◌∙◌}
-use Rattle.statement_text.proofs.Pieces.{put_then, put_as}
+use Rattle.std.proofs.Common.{arith}
+use Rattle.statement_text.proofs.Decimal.{digits_room}
+use Rattle.statement_text.proofs.Pieces.{put_then}
 use Rattle.statement_text.proofs.lent.Text.field.Goals as goal
 
-pub returns-clause-put : goal.returns-clause-put
-returns-clause-put g c =
-    put_then c.put.ensures (put_as (c.as_bytes.ensures.value ∙ c.format.ensures.text) c.put-2.ensures)
+pub returns : goal.returns
+returns c =
+    record {
+      put = put_then c.put.ensures c.digits.ensures;
+      short = omega (arith, c.put.ensures.wrote.ends, c.digits.ensures.wrote.ends, digits_room c.args.number c.ranges.number.fits);
+    }
