@@ -1,5 +1,5 @@
--- The tests of a good right in three parts, which hold together exactly where it is good (law `good_parts`), for a pass over many records: the
--- limits that are powers of two, which the low words of all records, joined bit by bit, can be asked at once; the last day; and the others.
+-- The tests of a good right in three parts, which hold together exactly where it is good (law `good_parts`): the limits that are powers of two, the
+-- last day against the year's days, and the others. No rule of its own.
 -- Assumes nothing.
 use Rattle.std.specs.Prelude.{Bool, not, ◌&&◌, leb, ltb, eqb}
 use Rattle.numbers.specs.Limits.{nodes}

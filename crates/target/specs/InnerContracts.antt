@@ -91,7 +91,7 @@ pub record ArePriced (file : List ℕ) (prices : List ℤ) (places : List ℕ) :
 
 -- an owner's cents of the live record of a number, 0 where it is another's
 abbrev pub live_row : List ℕ → List ℤ → ℕ → ℕ → ℤ
-live_row file prices owner number = own_row file owner (λ number. live_cents prices (right_at file number)) number
+live_row file prices owner number = own_row file owner (λ k. live_cents prices (right_at file k)) number
 
 -- an owner's sum of these over the records at these places
 abbrev pub live_sum : List ℕ → List ℤ → List ℕ → ℕ → ℤ
