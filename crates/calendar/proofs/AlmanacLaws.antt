@@ -12,7 +12,7 @@ use Rattle.numbers.specs.Lists.{total, any_below}
 use Rattle.numbers.proofs.Any.{any_miss}
 use Rattle.numbers.proofs.Lowest.{lowest_only, lowest_found, lowest_within}
 use Rattle.numbers.proofs.Booleans.{neither_true, flag_most}
-use Rattle.calendar.specs.Almanac.{first_year, last_year, is_outside, days_of_months, has_leap_day, days_in_year, may, date, monday, thursday, june_after, june_weekday, weekday, first_from, holidays, kept_on, kept_holidays, is_among}
+use Rattle.calendar.specs.Almanac.{first_year, last_year, is_outside, days_of_months, has_leap_day, days_in_year, most_days, may, date, monday, thursday, june_after, june_weekday, weekday, first_from, holidays, kept_on, kept_holidays, is_among}
 use Rattle.calendar.specs.Year.{hours_in_year}
 
 -- ---- the days of a year
@@ -28,7 +28,7 @@ days_are year = by_leap (has_leap_day year)
 pub days_least : (year : ℕ) → 365 ≤ days_in_year year
 days_least year = omega (arith, days_are year)
 
-pub days_most : (year : ℕ) → days_in_year year ≤ 366
+pub days_most : (year : ℕ) → days_in_year year ≤ most_days
 days_most year = omega (arith, days_are year, flag_most (has_leap_day year))
 
 -- the hours of the longest year

@@ -36,6 +36,10 @@ month_days year = days_of_months (has_leap_day year)
 unfoldable pub days_in_year : ℕ → ℕ
 days_in_year year = total (month_days year)
 
+-- the days of the longest year
+abbrev pub most_days : ℕ
+most_days = 366
+
 -- the months that dates name, by their numbers
 abbrev pub july : ℕ
 july = 1

@@ -3,7 +3,7 @@
 
 #![tactic(auto)]
 
-ghost use Rattle.std.specs.Prelude.{◌≤◌, ◌≡◌, false, length, OnOk};
+ghost use Rattle.std.specs.Prelude.{◌≤◌, ◌≡◌, false, length, OnOk, IfSome};
 ghost use Rattle.settlement_run.specs.Calls.{step_room, stepped_run};
 
 use settlement_run::Run;
@@ -70,14 +70,18 @@ fn main(rt: HostRuntime) -> ExitCode {
 }
 
 // The bytes of ftr.bin, if it can be opened and read to its end.
-fn read_rights<'a>(rt: &impl Files, room: &'a mut [u8]) -> Option<&'a [u8]> {
+fn read_rights<'a>(rt: &impl Files, room: &'a mut [u8]) -> Option<&'a [u8]>
+    ensures { IfSome result (λ bytes. length bytes.now ≤ length room.old) }
+{
     let mut file = fs::open(rt, "ftr.bin").ok()?;
     let bytes = read_full(&mut file, room);
     is_at_end(&mut file).then_some(bytes)
 }
 
 // Reads until the buffer is full, the input ends or a read fails. Gives the bytes that were read.
-fn read_full<'a>(input: &mut impl Read, buffer: &'a mut [u8]) -> &'a [u8] {
+fn read_full<'a>(input: &mut impl Read, buffer: &'a mut [u8]) -> &'a [u8]
+    ensures { length result.now ≤ length buffer.old }
+{
     let mut done = 0;
     // A `while`: each read says how far it came, so that no range or iterator gives the next place.
     while done < buffer.len() {

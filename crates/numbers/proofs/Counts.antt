@@ -11,7 +11,7 @@ use native.Mathlib.Decide.{ℕ_discrete}
 use native.Mathlib.Omega.{arith}
 use lib.Dec.{ltb}
 use lib.ListN.{length, get_or, take, drop, set, length-append, get_or-append, get_or-eq_default}
-use lib.Seq.{get_or_at, take_all, take-suc-set, drop-cons, ext_get_or}
+use lib.Seq.{get_or_at, get_or-take, take_all, take-suc-set, drop-cons, ext_get_or}
 use borrow.Author.Tests.{ltb-true, ltb-false, lt-ltb}
 use Rattle.std.specs.Array.{IsFromFnResult, IsFromFnResultFrom}
 use denote.Param.Members.{Mut, Called}
@@ -134,7 +134,13 @@ list_below_ext f g zero h = refl
 list_below_ext {A} f g (suc n) h =
     ap₂ (λ (l : List A) (a : A). l ++ (a ∷ [])) (list_below_ext f g n (λ i l. h i (omega arith))) (h n (omega arith))
 
--- a list filled from the front by f, and one place more, after a store there
+-- a list filled from the front by f is so at each place passed
+pub get_or_filled : {A : Type 0} (f : ℕ → A) (xs : List A) (n : ℕ) (d : A) → take n xs ≡ list_below f n → (i : ℕ) → i < n
+    → get_or xs i d ≡ f i
+get_or_filled {A} f xs n d e i l =
+    sym (get_or-take n xs i d l) ∙ ap (λ (ys : List A). get_or ys i d) e ∙ get_or_list_below f n d i l
+
+-- and one place more, after a store there
 pub filled_more : {A : Type 0} (f : ℕ → A) (xs : List A) (i : ℕ) (a : A) → i < length xs → a ≡ f i → take i xs ≡ list_below f i
     → take (i + 1) (set xs i a) ≡ list_below f (i + 1)
 unfolding list_below

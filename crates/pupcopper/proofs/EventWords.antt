@@ -1,7 +1,7 @@
 -- An event over the words of a book: refused by its words, or the event of the book that they stand for.
 -- Assumes nothing.
 use Prim.Native.Nat.{ℕ, ◌^◌, ◌<◌, ◌≤◌}
-use mathlib.Core.Path.{◌≡◌, sym, ap, ◌∙◌}
+use mathlib.Core.Path.{◌≡◌, sym, ap, subst, ◌∙◌}
 use mathlib.Core.Bool.{cond}
 use mathlib.Core.List.{List}
 use native.Mathlib.Decide.{ℕ_discrete}
@@ -15,7 +15,7 @@ use Rattle.settlement.specs.declared.Book.{Book as ByOwner}
 use Rattle.settlement.specs.Book.{Book}
 use Rattle.settlement.specs.ByOwner.{laid_out}
 use Rattle.settlement.specs.Events.{hour_call, month_end_call, year_end_call, Settled, settled, Call, fund, demand, book_after, lines, refusal, record_of, Answered}
-use Rattle.settlement.proofs.Amounts.{demand_small, record_within}
+use Rattle.settlement.proofs.Amounts.{records, demand_small, record_within}
 use Rattle.settlement.proofs.Refusing.{record_other, gives_number, gives_record, gives_fund, gives_demand}
 use Rattle.pupcopper.specs.BookWords.{BookWords, words_of, kept_from, book_from, year_in}
 use Rattle.pupcopper.specs.Calls.{is_wrong_report, settled_report, settled_words, words_refusal, event_refusal, Settles}
@@ -23,11 +23,17 @@ use Rattle.pupcopper.specs.InnerContracts.{bytes_lent, ResultFits}
 use Rattle.pupcopper.proofs.WordRows.{words_not_7, words_not_8}
 use mathlib.Core.Bool.{true}
 
--- the record that a call names is one of its rights
-record_lent : (call : Call) (year number : ℕ) → record_of call year number ≤ bytes_lent call
-record_lent (hour_call file prices collected) year number = omega (arith, record_within (hour_call file prices collected) year number)
-record_lent month_end_call year number = record_within month_end_call year number
-record_lent year_end_call year number = record_within year_end_call year number
+-- there are no more records than bytes
+pub records_lent : (call : Call) → records call ≤ bytes_lent call
+records_lent (hour_call file prices collected) = omega arith
+records_lent month_end_call = omega arith
+records_lent year_end_call = omega arith
+
+-- the event of a book that the words stand for
+pub of_words : (call : Call) (words : BookWords) {book : Book} {lent after : List ℤ} {result : Settled} → book ≡ book_from words
+    → Answered call book lent result after → Answered call (book_from words) lent result after
+of_words call words {lent = lent} {after = after} {result = result} is answered =
+    subst (λ (b : Book). Answered call b lent result after) is answered
 
 module _ (call : Call) (words : BookWords) (report lent : List ℤ) where
   abbrev own : ℕ
@@ -74,10 +80,10 @@ module _ (call : Call) (words : BookWords) (report lent : List ℤ) where
         (arith, demand_small call book (length lent) z, gives_demand answered ∙ answer_accepted own_number (demand call book) 0 z)
     demand_fits (no some) = omega (arith, gives_demand answered ∙ answer_refused own_number (demand call book) 0 some)
 
-    pub result_fits : bytes_lent call < 2 ^ 63 → ResultFits result
+    pub result_fits : records call < 2 ^ 63 → ResultFits result
     result_fits few =
         record {
-          named = omega (arith, gives_record answered, record_lent call book.year own_number);
+          named = omega (arith, gives_record answered, record_within call book.year own_number);
           wanted = demand_fits (ℕ_discrete own_number 0);
         }
 

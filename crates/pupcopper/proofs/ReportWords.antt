@@ -5,8 +5,8 @@ use mathlib.Core.Path.{◌≡◌, refl, sym, ap, ◌∙◌}
 use mathlib.Core.Bool.{Bool, true, false, cond}
 use mathlib.Core.List.{List, [], ◌∷◌, ◌++◌, append-nil}
 use native.Mathlib.Omega.{arith}
-use lib.ListN.{length, drop, drop_of_length-le}
-use lib.Seq.{sets, sets-eq}
+use lib.ListN.{length, drop, length-append, length-drop, drop_of_length-le}
+use lib.Seq.{sets, sets-eq, take_at}
 use borrow.Author.Tests.{eq-eqb, ne_eqb}
 use Rattle.numbers.specs.Refusals.{answer_by, answered, answer_record, first_refusal}
 use Rattle.numbers.proofs.Refusals.{refusal_none, refusal_here, refusal_next, number_answered, record_answered, value_answered}
@@ -106,6 +106,18 @@ nothing_behind values before all =
 
 pub written_all : {A : Type 0} (values before : List A) → length before ≡ length values → sets before 0 values ≡ values
 written_all values before all = written values before (omega arith) ∙ nothing_behind values before all
+
+-- words written behind others, to the end
+pub written_behind : {A : Type 0} (front values before : List A) → length before ≡ length front + length values
+    → sets (front ++ drop (length front) before) (length front) values ≡ front ++ values
+written_behind front values before all =
+    let whole = front ++ drop (length front) before in
+    let long : length whole ≡ length front + length values =
+    length-append front (drop (length front) before) ∙ ap (λ (n : ℕ). length front + n) (length-drop (length front) before) ∙ omega arith in
+    sets-eq values whole (length front) (omega (arith, long))
+    ∙ ap (λ (start : List _). start ++ values ++ drop (length front + length values) whole) (take_at front (drop (length front) before) (length front) refl)
+    ∙ ap (λ (rest : List _). front ++ values ++ rest) (drop_of_length-le whole {i = length front + length values} (omega (arith, long)))
+    ∙ append-nil (front ++ values)
 
 -- a report of one word
 pub word_reported : (report : List ℕ) (word : ℕ) → length report ≡ 1

@@ -15,7 +15,7 @@ use Rattle.numbers.specs.declared.refusal.Refusal.{Refusal}
 use Rattle.numbers.specs.declared.refusal.Refusal.TheVariants.{WrongLength, BadRight, UnpricedNode, NoSuchYear}
 use Rattle.numbers.specs.Refusals.{first_refusal, answered}
 use Rattle.numbers.proofs.Any.{any_absent, any_here, any_miss}
-use Rattle.numbers.proofs.Lowest.{lowest_only, lowest_found, lowest_within}
+use Rattle.numbers.proofs.Lowest.{lowest_only, lowest_found, lowest_inside, lowest_past, lowest_within}
 use Rattle.numbers.proofs.Refusals.{is_within, each_number, has_refusal, refusal_next, refusal_clear}
 use Rattle.calendar.specs.Almanac.{is_outside, days_in_year}
 use Rattle.rights.specs.Layout.{record_count, right_at, is_good, is_wrong_length}
@@ -25,6 +25,15 @@ module _ (year prices : ℕ) (file : List ℕ) where
   -- the lowest record with a fault
   abbrev lowest : ℕ → ℕ
   lowest refusal = lowest_below (fault_at year prices file refusal) (record_count file)
+
+  -- whether some record has the fault, by where the lowest stands
+  pub some_fault : (refusal : ℕ) → lowest refusal < record_count file → any_fault year prices file refusal ≡ true
+  unfolding any_fault
+  some_fault refusal inside = lowest_inside (fault_at year prices file refusal) (record_count file) inside
+
+  pub no_fault : (refusal : ℕ) → record_count file ≤ lowest refusal → any_fault year prices file refusal ≡ false
+  unfolding any_fault
+  no_fault refusal past = lowest_past (fault_at year prices file refusal) (record_count file) past
 
   pub file_15 : is_outside year ≡ true → 15 ≡ file_refusal year prices file
   unfolding file_refusal fault_rows first_refusal
@@ -107,6 +116,10 @@ module _ (year prices : ℕ) (file : List ℕ) where
   pub any_bad : any_fault year prices file 7 ≡ any_below (λ (number : ℕ). not (is_good (days_in_year year) (right_at file number))) (record_count file)
   unfolding any_fault fault_at
   any_bad = refl
+
+  pub any_unpriced : any_fault year prices file 8 ≡ any_below (λ (number : ℕ). is_unpriced prices (right_at file number)) (record_count file)
+  unfolding any_fault fault_at
+  any_unpriced = refl
 
   pub no_fault_to : (refusal : ℕ) → any_below (fault_at year prices file refusal) (record_count file) ≡ false
       → any_fault year prices file refusal ≡ false

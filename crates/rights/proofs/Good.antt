@@ -5,12 +5,13 @@ use mathlib.Core.Path.{◌≡◌, refl, sym, ap, ap₂, ◌∙◌}
 use mathlib.Core.Bool.{Bool, true, false, not, ◌&&◌}
 use native.Mathlib.Omega.{arith}
 use lib.Dec.{leb, ltb, eqb}
-use borrow.Author.Tests.{leb-true, le-leb, lt-leb, ltb-true, ltb-false}
+use borrow.Author.Tests.{leb-true, leb-false, le-leb, lt-leb, ltb-true, ltb-false}
 use Rattle.std.specs.Int.Bits.{bit_or}
 use Rattle.numbers.specs.Limits.{owners, nodes}
 use Rattle.numbers.specs.Words.{part_of}
 use Rattle.numbers.proofs.Bits.{join_below, join_part}
-use Rattle.numbers.proofs.Booleans.{both_true}
+use Rattle.numbers.proofs.Booleans.{both_true, neither_true}
+use Rattle.calendar.specs.Almanac.{most_days}
 use Rattle.rights.specs.declared.Right.{Right}
 use Rattle.rights.specs.Layout.{most_size, good_owner, good_nodes, good_kind, good_size, good_days, is_good}
 use Rattle.rights.specs.Faults.{is_unpriced}
@@ -25,8 +26,18 @@ pub record Small (right : Right) : Type 0 where
   pub kind : right.kind ≤ 1
   pub class : right.class ≤ 2
   pub size : right.size ≤ most_size
-  pub first : right.first ≤ 366
-  pub last : right.last ≤ 366
+  pub first : right.first ≤ most_days
+  pub last : right.last ≤ most_days
+
+-- a right that is not unpriced has both its nodes among the prices
+module _ (prices : ℕ) (right : Right) (priced : is_unpriced prices right ≡ false) where
+  pub source_priced : right.source < prices
+  source_priced =
+      leb-false prices right.source (neither_true (leb prices right.source) (leb prices right.sink) priced).0
+
+  pub sink_priced : right.sink < prices
+  sink_priced =
+      leb-false prices right.sink (neither_true (leb prices right.source) (leb prices right.sink) priced).1
 
 -- a right is good where each part of its test holds
 pub good_parts : (days : ℕ) (right : Right) → is_good days right ≡ (is_within_limits right && is_sound right && leb right.last days)
@@ -119,7 +130,7 @@ module _ (days : ℕ) (right : Right) (good : is_good days right ≡ true) where
       rw (lt-leb prices right.source (omega arith), lt-leb prices right.sink (omega arith))
 
   -- its fields are small
-  pub good_small : days ≤ 366 → Small right
+  pub good_small : days ≤ most_days → Small right
   good_small few =
       let nodes_good = both_true (ltb right.source nodes) (ltb right.sink nodes) both_nodes in
       let kind_good = both_true (leb right.kind 1) (leb right.class 2) (both_true (good_owner right && good_nodes right) (good_kind right) to_kind).1 in
@@ -140,7 +151,7 @@ module _ (days : ℕ) (right : Right) (good : is_good days right ≡ true) where
       }
 
   -- so that each is in its width
-  pub good_widths : days ≤ 366 → InWidths right
+  pub good_widths : days ≤ most_days → InWidths right
   good_widths few =
       let small = good_small few in
       record {

@@ -147,20 +147,28 @@ impl Book {
     }
 
     // Pays the month's shortfalls from the month's balance; what is unpaid and what is left go to the year.
-    pub fn month_end(self, lines: &mut [i64]) -> Settled
+    pub fn month_end(mut self, lines: &mut [i64]) -> Settled
         ensures { AnsweredByOwner month_end_call self lines.old result.outcome result.book lines.new }
     {
-        self.close(End::Month, lines)
+        let outcome = self.pay_short(End::Month, lines);
+        Settled {
+            book: self,
+            outcome,
+        }
     }
 
     // Pays the year's shortfalls from the year's balance and ends the book.
-    pub fn year_end(self, lines: &mut [i64]) -> Settled
+    pub fn year_end(mut self, lines: &mut [i64]) -> Settled
         ensures { AnsweredByOwner year_end_call self lines.old result.outcome result.book lines.new }
     {
-        self.close(End::Year, lines)
+        let outcome = self.pay_short(End::Year, lines);
+        Settled {
+            book: self,
+            outcome,
+        }
     }
 
-    // The month end or the year end. It ends as `hour` does: one function that is given what settles would be no plainer.
+    // The month end or the year end. It ends as `hour` and the two ends do: one function that is given what settles would be no plainer.
     pub fn close(mut self, end: End, lines: &mut [i64]) -> Settled
         ensures { AnsweredByOwner (end_call end) self lines.old result.outcome result.book lines.new }
     {

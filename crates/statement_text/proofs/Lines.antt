@@ -111,14 +111,14 @@ unfolding signed_digits
 signed_length (pos n) few = omega (arith, digits_half_room n few)
 signed_length (negsuc n) few = omega (arith, digits_half_room (suc n) few)
 
-line_length : (tag number owner : ℕ) (cents : ℤ) → number < 2 ^ 64 → owner < 2 ^ 64 → nat_abs cents ≤ 2 ^ 63
+pub line_length : (tag number owner : ℕ) (cents : ℤ) → number < 2 ^ 64 → owner < 2 ^ 64 → nat_abs cents ≤ 2 ^ 63
     → length (line_text (owner_line tag number owner cents)) ≤ line_room
 unfolding line_text
 line_length tag number owner cents small low few =
     simp length-append
     (omega (arith, digits_room number small, digits_room owner low, signed_length cents few))
 
-owner_length : (tag number owner : ℕ) (cents : ℤ) → number < 2 ^ 64 → owner < 2 ^ 64 → nat_abs cents ≤ 2 ^ 63
+pub owner_length : (tag number owner : ℕ) (cents : ℤ) → number < 2 ^ 64 → owner < 2 ^ 64 → nat_abs cents ≤ 2 ^ 63
     → length (text_of (owner_lines tag number owner cents)) ≤ line_room
 unfolding owner_lines
 owner_length tag number owner (pos zero) small low few = omega (arith, ap length text_none)
@@ -130,7 +130,7 @@ owner_length tag number owner (negsuc n) small low few =
     (arith, ap length (text_one (owner_line tag number owner (negsuc n))), line_length tag number owner (negsuc n) small low few)
 
 -- the room that the owners below a number take grows by no more than a line with each
-owners_more : (tag number : ℕ) (lines : List ℤ) (owner : ℕ) → length (owners_text tag number lines owner) ≤ owner * line_room
+pub owners_more : (tag number : ℕ) (lines : List ℤ) (owner : ℕ) → length (owners_text tag number lines owner) ≤ owner * line_room
     → length (text_of (owner_lines tag number owner (get_or lines owner (pos 0)))) ≤ line_room
     → length (owners_text tag number lines (owner + 1)) ≤ (owner + 1) * line_room
 owners_more tag number lines owner before one =

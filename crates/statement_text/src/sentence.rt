@@ -80,7 +80,8 @@ fn write_named(tag: u8, number: u64, out: &mut Text)
     }
 }
 
-// Words, and a number behind them.
+// Words, and a number behind them. Inline, so that each phrase is copied in pieces of a length that the compiler knows.
+#[inline(always)]
 fn write_numbered(words: &[u8], number: u64, out: &mut Text)
     requires { out.old.end + length words.now + field_room ≤ length out.old.bytes.now }
     ensures put { Put (words.now ++ field number) out.old out.new }

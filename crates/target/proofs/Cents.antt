@@ -48,7 +48,7 @@ module _ (prices : List ℤ) (no_wild : any_wild prices ≡ false) where
           tame (price_at prices node)
           (any_miss (wild_at prices) (length prices) node no_wild (leb-false (length prices) node e))
 
-  gain_most : (right : Right) → nat_abs (counted right.kind (spread prices right)) ≤ most_price + most_price
+  pub gain_most : (right : Right) → nat_abs (counted right.kind (spread prices right)) ≤ most_price + most_price
   gain_most right =
       omega
       (arith, counted_most (eqb right.kind 1) (spread prices right), abs_sub (price_at prices right.sink) (price_at prices right.source), price_most right.sink, price_most right.source)

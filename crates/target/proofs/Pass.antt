@@ -2,7 +2,7 @@
 -- Assumes nothing.
 use Prim.Native.Nat.{ℕ, ◌+◌, ◌*◌, ◌/◌, ◌%◌, ◌^◌, ◌≤◌, ◌<◌, zero-le}
 use mathlib.Core.Path.{◌≡◌, refl, sym, ap, ap₂, subst, ◌∙◌}
-use mathlib.Core.Bool.{Bool, true, false, cond, not, ◌&&◌, ◌||◌, false≢true}
+use mathlib.Core.Bool.{Bool, true, false, cond, ◌&&◌, ◌||◌, or-true}
 use mathlib.Core.List.{List}
 use native.Mathlib.Decide.{ℕ_discrete}
 use native.Mathlib.Omega.{arith}
@@ -10,7 +10,7 @@ use lib.Dec.{eqb, ltb}
 use lib.ListN.{length, get_or, set, replicate, length-set, length-replicate, get_or-replicate}
 use lib.Seq.{get_or-set_same, get_or-set_other}
 use lib.IntN.{ℤ, pos, nat_abs, ◌+ℤ◌, +ℤ_idr}
-use borrow.Author.Tests.{eq-eqb, ne_eqb, eqb-true, ltb-false}
+use borrow.Author.Tests.{eq-eqb, ne_eqb, ltb-false}
 use Rattle.std.specs.Prelude.{Some, None, take}
 use Rattle.std.proofs.lemmas.List.{get_or-take, length-take-le}
 use Rattle.std.proofs.lemmas.Bool.{not-false}
@@ -27,11 +27,11 @@ use Rattle.calendar.proofs.AlmanacLaws.{days_most}
 use Rattle.rights.specs.declared.Right.{Right}
 use Rattle.rights.specs.Layout.{record_bytes, record_count, right_at, good_size, is_good, is_live, is_wrong_length}
 use Rattle.rights.specs.Faults.{file_refusal, any_fault, is_unpriced}
-use Rattle.rights.proofs.Faults.{any_bad, clear_year, clear_length, clear_of_faults, clear_record, file_rows, some_faults}
+use Rattle.rights.proofs.Faults.{any_bad, any_unpriced, clear_year, clear_length, clear_of_faults, file_rows, some_faults}
 use Rattle.rights.proofs.Good.{good_small, owner_is_good, size_is_good, good_owner_lem, good_priced}
 use Rattle.rights.proofs.Readings.{records_most}
 use Rattle.target.specs.Target.{any_wild, live_cents, own_row, own_sum, row_at}
-use Rattle.target.specs.InnerContracts.{ArePriced, AreLive, number_in, added, lacks_prices, live_row, live_sum}
+use Rattle.target.specs.InnerContracts.{ArePriced, AreLive, number_in, added, any_unpriced as unpriced_in, lacks_prices, live_row, live_sum}
 use Rattle.target.proofs.Search.{is_bad}
 use Rattle.target.proofs.Cents.{most_cents, live_most, row_live, row_not_live}
 
@@ -140,24 +140,25 @@ module _ (year : ℕ) (file : List ℕ) (prices : List ℤ) (hour : OperatingHou
   pub stops_bad : any_below (is_bad year file) (record_count file) ≡ true → None ≡ added year file prices hour
   stops_bad some = stops (bad_refused (any_bad year (length prices) file ∙ some))
 
-  -- or too few prices
-  pub stops_unpriced : lacks_prices year (length prices) file ≡ true → None ≡ added year file prices hour
+  unpriced_refused : any_fault year (length prices) file 8 ≡ true → file_refusal year (length prices) file ≡ 0 → ⊥
+  unpriced_refused unpriced none =
+      some_faults year (length prices) file (ap (λ (b : Bool). any_fault year (length prices) file 7 || b) unpriced ∙ or-true (any_fault year (length prices) file 7))
+      (sym (file_rows year (length prices) file (clear_year year (length prices) file none) (clear_length year (length prices) file none)) ∙ none)
+
+  -- or has too few prices
+  pub stops_unpriced : lacks_prices (length prices) file ≡ true → None ≡ added year file prices hour
   stops_unpriced lacks =
-      stops
-      (λ none.
-      false≢true
-      (sym (ap not (eq-eqb (file_refusal year (length prices) file) 0 none)) ∙ (both_true (ltb (length prices) nodes) (not (eqb (file_refusal year (length prices) file) 0)) lacks).1))
+      stops (unpriced_refused (any_unpriced year (length prices) file ∙ (both_true (ltb (length prices) nodes) (unpriced_in (length prices) file) lacks).1))
 
   -- else each good record has its prices
-  priced : lacks_prices year (length prices) file ≡ false → (number : ℕ) → number < record_count file
+  priced : lacks_prices (length prices) file ≡ false → (number : ℕ) → number < record_count file
       → is_good (days_in_year year) (right_at file number) ≡ true → is_unpriced (length prices) (right_at file number) ≡ false
   priced enough number inside good = by_count (ltb (length prices) nodes) refl
     where
       by_count : (fewer : Bool) → ltb (length prices) nodes ≡ fewer → is_unpriced (length prices) (right_at file number) ≡ false
       by_count true e =
-          let clear : not (eqb (file_refusal year (length prices) file) 0) ≡ false =
-          ap (λ (b : Bool). b && not (eqb (file_refusal year (length prices) file) 0)) (sym e) ∙ enough in
-          (clear_record year (length prices) file (eqb-true _ _ (not-false _ clear)) number inside).1
+          let clear : unpriced_in (length prices) file ≡ false = ap (λ (b : Bool). b && unpriced_in (length prices) file) (sym e) ∙ enough in
+          any_miss (λ k. is_unpriced (length prices) (right_at file k)) (record_count file) number clear inside
       by_count false e = good_priced (days_in_year year) (right_at file number) good (length prices) (ltb-false (length prices) nodes e)
 
   module _ (places : List ℕ) (count : ℕ) (found : AreLive file hour (number_in places) count (record_count file))
@@ -203,7 +204,7 @@ module _ (year : ℕ) (file : List ℕ) (prices : List ℤ) (hour : OperatingHou
       good_at : (number : ℕ) → number < record_count file → is_good (days_in_year year) (right_at file number) ≡ true
       good_at number inside = not-false _ (any_miss (is_bad year file) (record_count file) number good inside)
 
-      module _ (enough : lacks_prices year (length prices) file ≡ false) where
+      module _ (enough : lacks_prices (length prices) file ≡ false) where
         -- the noted records can be settled
         pub can_add : ArePriced file prices noted
         can_add =

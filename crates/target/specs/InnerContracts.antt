@@ -1,6 +1,6 @@
 -- For the contracts of inner functions alone, no part of what a call promises.
 -- Assumes nothing.
-use Rattle.std.specs.Prelude.{ℕ, ◌/◌, ◌%◌, ◌^◌, ◌≤◌, ◌<◌, ◌≡◌, Bool, true, false, cond, not, ◌&&◌, ◌||◌, List, [], ◌∷◌, leb, eqb, ltb, length, get_or, Option, Some, None, ℤ, pos}
+use Rattle.std.specs.Prelude.{ℕ, ◌/◌, ◌%◌, ◌^◌, ◌≤◌, ◌<◌, ◌≡◌, Bool, true, false, cond, not, ◌&&◌, ◌||◌, List, [], ◌∷◌, leb, ltb, length, get_or, Option, Some, None, ℤ, pos}
 use Rattle.numbers.specs.Limits.{owners, nodes}
 use Rattle.numbers.specs.Lists.{any_below, list_below, sum_below}
 use Rattle.numbers.specs.Refusals.{answer_by}
@@ -19,9 +19,13 @@ abbrev pub added : ℕ → List ℕ → List ℤ → OperatingHour → Option (L
 added year file prices hour =
     answer_by (file_refusal year (length prices) file) (Some (list_below (λ owner. own_sum file owner (row_at file prices hour)) owners)) None
 
--- there are fewer prices than nodes, and the file has a fault with so few
-abbrev pub lacks_prices : ℕ → ℕ → List ℕ → Bool
-lacks_prices year prices file = ltb prices nodes && not (eqb (file_refusal year prices file) 0)
+-- some record has a node without a price
+abbrev pub any_unpriced : ℕ → List ℕ → Bool
+any_unpriced prices file = any_below (λ number. is_unpriced prices (right_at file number)) (record_count file)
+
+-- there are fewer prices than nodes, and so few that some record has a node without one
+abbrev pub lacks_prices : ℕ → List ℕ → Bool
+lacks_prices prices file = ltb prices nodes && any_unpriced prices file
 
 -- for each class 1 if it fits, else 0
 abbrev pub classes_that_fit : Bool → List ℕ

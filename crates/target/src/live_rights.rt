@@ -3,9 +3,9 @@
 ghost use Rattle.std.specs.Prelude.{◌≡◌, ◌+◌, ◌*◌, ◌^◌, ◌≤◌, false, leb, length, ltb};
 ghost use Rattle.numbers.specs.Limits.{owners};
 ghost use Rattle.numbers.specs.Lists.{list_below};
-ghost use Rattle.calendar.specs.Almanac.{is_outside};
+ghost use Rattle.calendar.specs.Almanac.{is_outside, most_days};
 ghost use Rattle.rights.specs.Layout.{is_wrong_length, record_bytes, right_from};
-ghost use Rattle.target.specs.InnerContracts.{ArePriced, LiveNoted, added, classes_that_fit, is_live_on, lacks_prices, live_sum, met_a_bad_one};
+ghost use Rattle.target.specs.InnerContracts.{ArePriced, LiveNoted, added, any_unpriced, classes_that_fit, is_live_on, lacks_prices, live_sum, met_a_bad_one};
 ghost use Rattle.target.specs.Target.{any_wild};
 
 use crate::PricedRight;
@@ -50,7 +50,7 @@ pub(crate) fn add_rights(
     requires { (is_outside year ≡ false) × (is_wrong_length (length rights.now) ≡ false) × (any_wild prices.now ≡ false) }
     ensures { result ≡ added year rights.now prices.now hour }
 {
-    if lacks_prices(year, rights, prices.len()) {
+    if lacks_prices(rights, prices.len()) {
         return None;
     }
     let mut places = [0u16; rights::MOST_RECORDS];
@@ -61,12 +61,24 @@ pub(crate) fn add_rights(
     Some(add_live(rights, prices, &places[..noted.live]))
 }
 
-// Whether there are fewer prices than nodes and the file has a fault with so few. A good right's nodes are below 1,024: with as many prices
-// none is missing, and the file is not looked through here.
-fn lacks_prices(year: u64, rights: &[u8], prices: usize) -> bool
-    ensures { result ≡ lacks_prices year prices rights.now }
+// Whether there are so few prices that some record has a node without one. A good right's nodes are below 1,024: with as many prices none is
+// missing, and the file is not looked through here.
+fn lacks_prices(rights: &[u8], prices: usize) -> bool
+    ensures { result ≡ lacks_prices prices rights.now }
 {
-    prices < numbers::NODES && rights::file_fault(year, rights, prices).is_err()
+    prices < numbers::NODES && any_unpriced(rights, prices)
+}
+
+// Whether some record has a node without a price. No early way out, and nothing else is looked at, so that the loop is short.
+fn any_unpriced(rights: &[u8], prices: usize) -> bool
+    ensures { result ≡ any_unpriced prices rights.now }
+{
+    let (records, _) = rights.as_chunks::<{ rights::RECORD_BYTES }>();
+    let mut unpriced = false;
+    for record in records {
+        unpriced |= rights::is_unpriced(Words::from_le_bytes(record).cut(), prices);
+    }
+    unpriced
 }
 
 // Writes each record's place behind those of the live ones, where it stays if its record is live, up to the first record that is not sound. By `as`:
@@ -119,7 +131,7 @@ fn record_at(rights: &[u8], place: usize) -> &[u8; rights::RECORD_BYTES]
 // A last day, raised by as much as the year's days leave below 2^16: one that is past them has a bit above these.
 #[tactic(auto, using(crate::proofs::Search::raised))]
 fn raised(last: u16, days: u64) -> u64
-    requires { days ≤ 366 }
+    requires { days ≤ most_days }
     ensures { ltb result (2 ^ 16) ≡ leb last days }
 {
     u64::from(last) + (DAY_VALUES - 1 - days)

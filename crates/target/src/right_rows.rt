@@ -9,6 +9,7 @@ ghost use Rattle.target.specs.Target.{any_wild, call_answer, row_at};
 use crate::PricedRight;
 use calendar::OperatingHour;
 use numbers::Refusal;
+use rights::Words;
 
 // The row call: each record's cents in an hour, or a refusal that leaves the lines as they were. The whole file is looked at before the
 // first row is written.
@@ -35,8 +36,9 @@ fn write_rows(year: u64, rights: &[u8], prices: &[i32], hour: OperatingHour, lin
     requires { (file_refusal year (length prices.now) rights.now ≡ 0) × (any_wild prices.now ≡ false) × (length lines.old ≡ record_count rights.now) }
     ensures { lines.new ≡ list_below (row_at rights.now prices.now hour) (record_count rights.now) }
 {
+    let (records, _) = rights.as_chunks::<{ rights::RECORD_BYTES }>();
     for (number, line) in lines.iter_mut().enumerate() {
-        let right = rights::read(year, rights, number as u64).unwrap();
+        let right = Words::from_le_bytes(&records[number]).cut();
         *line = PricedRight { right, prices }.row_cents(hour);
     }
 }
