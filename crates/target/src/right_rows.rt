@@ -30,8 +30,8 @@ pub fn rows(
     Ok(())
 }
 
-// Writes the row of each record of a file without a fault, by the record's number, which is the place of its line too; by `as`, since there is
-// no `From` from an index to 64 bits.
+// Writes the row of each record of a file without a fault, by the record's number, which is the place of its line too. The file was looked at
+// before, so that each right is cut from its words: what a read gives, a `Result` of a right, would go through memory.
 fn write_rows(year: u64, rights: &[u8], prices: &[i32], hour: OperatingHour, lines: &mut [i64])
     requires { (file_refusal year (length prices.now) rights.now ≡ 0) × (any_wild prices.now ≡ false) × (length lines.old ≡ record_count rights.now) }
     ensures { lines.new ≡ list_below (row_at rights.now prices.now hour) (record_count rights.now) }
